@@ -1,0 +1,4 @@
+pub mod WellFormed
+pub mod Serving
+pub mod Reading
+pub mod Due

@@ -1,0 +1,10 @@
+pub mod Source
+pub mod CallFile
+pub mod Promise
+pub use Rattle.avm_run.specs.Machine
+pub use Rattle.avm_run.specs.Bytes
+pub use Rattle.avm_run.specs.Form
+pub use Rattle.avm_ops.specs.Code
+pub use Rattle.avm_ops.specs.Varint
+pub use Rattle.puya_base.specs.Files
+pub use Rattle.puya_base.specs.Causes
