@@ -1,184 +1,209 @@
-ghost use Rattle.std.specs.Prelude.{◌≡◌, ◌≤◌, ◌+◌, ◌-◌, IfNone, ◌^◌, ◌<◌, [], length, IfOk};
+ghost use Rattle.std.specs.Prelude.{◌≡◌, ℕ, ◌+◌, ◌-◌, ◌≤◌, ◌<◌, ◌^◌, List, [], ◌∷◌, length, IfNone, IfOk, IfSome};
 ghost use Rattle.avm_ops.specs.Code.{HasForm};
-ghost use Rattle.avm_ops.specs.Rows.{IsValueRow};
-ghost use Rattle.avm_run.specs.Machine.{turn, perform, value_act, decision};
-ghost use Rattle.avm_run.specs.Bytes.{code_of, run_of, state_of, end_of, ended_of, standing, Turns, Acts};
+ghost use Rattle.avm_ops.specs.Rows.{shape_of};
+ghost use Rattle.avm_run.specs.Machine.{Next, decision, goes_on, perform, start, turn};
+ghost use Rattle.avm_run.specs.Bytes.{code_of, run_of, standing_of};
+ghost use Rattle.avm_run.specs.Answers.{Finds, Turns, outcome_of, ran_of};
+ghost use Rattle.avm_state.specs.LedgerState.{LedgerState};
 
+use crate::blocks::Blocks;
+use crate::outcome::{Outcome, Ran};
 use crate::program::Program;
-use avm_ops::{DecodeFault, Imm, Instr, apply, decode_at, shape};
-use puya_base::{List, Memory, StepFault, Value, Values, split_off};
+use crate::rows::act_by_row;
+use crate::scratch::empty_scratch;
+use crate::state::{Acted, State};
+use avm_ops::{DecodeFault, Instr, decode_at, shape};
+use avm_state::{Call, Ledger};
+use puya_base::{List, Memory, Value};
 use std::alloc::Global;
 
-#[derive(Clone, Copy, Debug, PartialEq, Eq)]
-pub enum Outcome {
-    Approved,
-    Rejected,
-    OverBudget,
-    OverDepth,
-}
-
-/// The end of a run: where it stopped, and the cost of the instructions that acted or failed.
-#[derive(Clone, Copy, Debug, PartialEq, Eq)]
-pub struct Ran {
-    pub outcome: Outcome,
-    pub pc: usize,
-    pub spent: u64,
-}
-
-/// The machine between two instructions.
-#[derive(Debug, Drop)]
-pub struct Running {
-    pub pc: usize,
-    pub stack: Values,
-    pub spent: u64,
-}
-
+/// The most values on the stack between instructions.
 const MAX_DEPTH: usize = 1000;
 
-fn decided(stack: &[Value]) -> Outcome
-    ensures { end_of result ≡ decision tt stack.now }
+/// How a run ends, without the ledger.
+#[derive(Clone, Copy, Debug, PartialEq, Eq)]
+pub enum Verdict {
+    Approves,
+    Rejects,
+    PassesBudget,
+    PassesDepth,
+}
+
+/// The end of a run, without the ledger.
+#[derive(Clone, Copy, Debug, PartialEq, Eq)]
+pub struct Halt {
+    pub verdict: Verdict,
+    pub pc: usize,
+    pub spent: u64,
+}
+
+/// Whether the stack is one number that isn't 0.
+fn verdict_on(stack: &[Value]) -> Verdict
+    ensures { (ledger : LedgerState) → outcome_of result ledger ≡ decision ledger stack.now }
 {
     match stack {
-        [Value::Int(n)] => {
-            if *n == 0 {
-                Outcome::Rejected
+        [Value::Int(number)] => {
+            if *number == 0 {
+                Verdict::Rejects
             } else {
-                Outcome::Approved
+                Verdict::Approves
             }
         }
-        _ => Outcome::Rejected,
+        _ => Verdict::Rejects,
     }
 }
 
-/// Puts a value row's results in the place of its operands, or says that it fails.
-fn act(alloc: Global, instr: &Instr, stack: &mut Values) -> Result<bool, Memory>
-    requires row { IsValueRow instr.now.op }
-    requires form { HasForm instr.now }
-    ensures { IfOk result (λ acted. Acts acted stack.new (value_act instr.now.op stack.old)) }
+fn verdict_of(value: Value) -> Verdict
+    ensures { (ledger : LedgerState) → outcome_of result ledger ≡ decision ledger (value ∷ []) }
 {
-    let pops = shape(instr).pops as usize;
-    let len = stack.len();
-    if len < pops {
-        return Ok(false);
-    }
-    let operands = split_off(alloc, stack, len - pops)?;
-    match apply(alloc, instr, &operands) {
-        Ok(results) => {
-            stack.append(results)?;
-            Ok(true)
-        }
-        Err(StepFault::Fails) => Ok(false),
-        Err(StepFault::Memory) => Err(Memory),
+    match value {
+        Value::Int(0) => Verdict::Rejects,
+        Value::Int(_) => Verdict::Approves,
+        Value::Bytes(_) => Verdict::Rejects,
     }
 }
 
-/// The end of a run, or none where it goes on from the new state.
-fn performed(
+/// Does an instruction whose cost the budget covers: the end of the run, or none where it goes on from the new state.
+fn perform_instruction(
     alloc: Global,
     instr: &Instr,
     next: usize,
-    state: &mut Running,
-) -> Result<Option<Ran>, Memory>
+    call: &Call,
+    state: &mut State,
+) -> Result<Option<Halt>, Memory>
     requires form { HasForm instr.now }
-    requires small { state.old.spent < 2 ^ 64 - 1 }
-    ensures turn { IfOk result (λ r. Turns r state.new (perform (record { instr = instr.now; next = next; targets = [] }) (state_of state.old))) }
-    ensures moved { IfOk result (λ r. IfNone r ((state.new.pc ≡ next) × (state.new.spent ≡ state.old.spent + 1))) }
+    requires small { next < 2 ^ 63 - 2 ^ 15 }
+    requires cost { state.old.spent + (shape_of instr.now).cost ≤ call.now.budget }
+    ensures turn { IfOk result (λ h. Turns h state.new (perform (standing_of instr.now next) call.now state.old)) }
+    ensures spent { IfOk result (λ h. IfNone h (state.new.spent ≡ state.old.spent + (shape_of instr.now).cost)) }
+    ensures halted { IfOk result (λ h. IfSome h (λ e. e.spent ≤ call.now.budget)) }
 {
-    let spent = state.spent + 1;
+    let _budget = call.budget;
     let pc = state.pc;
-    let acted = match &instr.imm {
-        Imm::Int(n) => {
-            state.stack.push(Value::Int(*n))?;
-            true
-        }
-        Imm::Nothing => {
-            if instr.op == 67 {
-                let stack = state.stack.as_slice();
-                let outcome = match stack {
-                    [.., last] => decided(&stack[stack.len() - 1..]),
-                    [] => Outcome::Rejected,
-                };
-                return Ok(Some(Ran { outcome, pc, spent }));
-            }
-            act(alloc, instr, &mut state.stack)?
-        }
-    };
-    if !acted {
-        return Ok(Some(Ran {
-            outcome: Outcome::Rejected,
-            pc,
-            spent,
-        }));
-    }
-    if state.stack.len() > MAX_DEPTH {
-        return Ok(Some(Ran {
-            outcome: Outcome::OverDepth,
-            pc,
-            spent,
-        }));
-    }
+    let spent = state.spent + shape(instr).cost;
+    let entering = state.entering;
     state.pc = next;
     state.spent = spent;
-    Ok(None)
+    state.entering = false;
+    let verdict = match act_by_row(alloc, instr, call, entering, state)? {
+        Acted::Failed => Verdict::Rejects,
+        Acted::Returned(value) => verdict_of(value),
+        Acted::WentOn => {
+            if state.stack.len() <= MAX_DEPTH {
+                return Ok(None);
+            }
+            Verdict::PassesDepth
+        }
+    };
+    Ok(Some(Halt { verdict, pc, spent }))
 }
 
-/// One step.
-fn stepped(
-    alloc: Global,
-    code: &[u8],
-    budget: u64,
-    state: &mut Running,
-) -> Result<Option<Ran>, Memory>
-    requires within { state.old.pc ≤ length code.now }
-    requires spent { state.old.spent ≤ budget }
-    ensures turn { IfOk result (λ r. Turns r state.new (turn (code_of code.now) budget (state_of state.old))) }
-    ensures within { IfOk result (λ r. IfNone r (state.new.pc ≤ length code.now)) }
-    ensures spent { IfOk result (λ r. IfNone r (state.new.spent ≤ budget)) }
+/// What stands at a place, and the place after it; at the end of the program nothing does.
+fn standing_at(alloc: Global, code: &[u8], pc: usize) -> Result<Option<(Instr, usize)>, Memory>
+    ensures found { IfOk result (λ o. Finds o ((code_of code.now).at pc)) }
+    ensures form { IfOk result (λ o. IfSome o (λ p. HasForm p.0)) }
+    ensures within { IfOk result (λ o. IfSome o (λ p. p.1 ≤ length code.now)) }
+{
+    if code.len() <= pc {
+        return Ok(None);
+    }
+    match decode_at(alloc, code, pc) {
+        Ok(found) => Ok(Some(found)),
+        Err(DecodeFault::Memory) => Err(Memory),
+        Err(_) => Ok(None),
+    }
+}
+
+/// One step of the run.
+#[tactic(auto, unfolding(crate::specs::Machine::turn))]
+fn step(alloc: Global, code: &[u8], call: &Call, state: &mut State) -> Result<Option<Halt>, Memory>
+    requires length { length code.now < 2 ^ 62 }
+    requires spent { state.old.spent ≤ call.now.budget }
+    ensures turn { IfOk result (λ h. Turns h state.new (turn (code_of code.now) call.now state.old)) }
+    ensures spent { IfOk result (λ h. IfNone h (state.new.spent ≤ call.now.budget)) }
+    ensures halted { IfOk result (λ h. IfSome h (λ e. e.spent ≤ call.now.budget)) }
 {
     let pc = state.pc;
     let spent = state.spent;
-    match decode_at(alloc, code, pc) {
-        Err(DecodeFault::Memory) => Err(Memory),
-        Err(_) => Ok(Some(Ran {
-            outcome: decided(state.stack.as_slice()),
-            pc,
-            spent,
-        })),
-        Ok((instr, next)) => {
-            if budget - spent < shape(&instr).cost {
-                return Ok(Some(Ran {
-                    outcome: Outcome::OverBudget,
-                    pc,
-                    spent,
-                }));
-            }
-            performed(alloc, &instr, next, state)
-        }
+    let Some((instr, next)) = standing_at(alloc, code, pc)? else {
+        let verdict = verdict_on(state.stack.as_slice());
+        return Ok(Some(Halt { verdict, pc, spent }));
+    };
+    if call.budget - spent < shape(&instr).cost {
+        let verdict = Verdict::PassesBudget;
+        return Ok(Some(Halt { verdict, pc, spent }));
+    }
+    perform_instruction(alloc, &instr, next, call, state)
+}
+
+fn ended(halt: Halt, ledger: Ledger) -> Ran
+    ensures { result ≡ ran_of halt ledger }
+{
+    let outcome = match halt.verdict {
+        Verdict::Approves => Outcome::Approved(ledger),
+        Verdict::Rejects => Outcome::Rejected,
+        Verdict::PassesBudget => Outcome::OverBudget,
+        Verdict::PassesDepth => Outcome::OverDepth,
+    };
+    Ran {
+        outcome,
+        pc: halt.pc,
+        spent: halt.spent,
     }
 }
 
-/// Runs a program on a budget.
-pub fn run(alloc: Global, program: &Program, budget: u64) -> Result<Ran, Memory>
-    ensures { IfOk result (λ ran. ended_of ran ≡ run_of program.now budget) }
+/// The state in which a run starts: at place 1, with nothing but the ledger.
+fn start_state(alloc: Global, ledger: Ledger) -> Result<State, Memory>
+    ensures { IfOk result (λ s. (code : List ℕ) → s ≡ start (code_of code) ledger) }
 {
-    let code = program.bytes();
-    let mut state = Running {
+    Ok(State {
         pc: 1,
-        stack: List::new(alloc),
         spent: 0,
-    };
-    for _turn in 0..budget {
-        match stepped(alloc, code, budget, &mut state)? {
-            Some(ran) => return Ok(ran),
+        entering: false,
+        stack: List::new(alloc),
+        frames: List::new(alloc),
+        scratch: empty_scratch(alloc)?,
+        blocks: Blocks {
+            ints: List::new(alloc),
+            blobs: List::new(alloc),
+        },
+        ledger,
+    })
+}
+
+/// Steps until the run ends, which it does within its budget and one step more.
+fn halt_of(alloc: Global, code: &[u8], call: &Call, state: &mut State) -> Result<Halt, Memory>
+    requires length { length code.now < 2 ^ 62 }
+    requires fresh { state.old.spent ≡ 0 }
+    ensures value { IfOk result (λ h. ran_of h state.new.ledger ≡ goes_on (code_of code.now) call.now (call.now.budget + 1) (Next state.old)) }
+    ensures within { IfOk result (λ h. h.spent ≤ call.now.budget) }
+{
+    for _turn in 0..call.budget {
+        let halt = step(alloc, code, call, state)?;
+        match halt {
+            Some(halt) => return Ok(halt),
             None => {}
         }
     }
-    match stepped(alloc, code, budget, &mut state)? {
-        Some(ran) => Ok(ran),
-        None => Ok(Ran {
-            outcome: Outcome::OverBudget,
+    let halt = step(alloc, code, call, state)?;
+    match halt {
+        Some(halt) => Ok(halt),
+        None => Ok(Halt {
+            verdict: Verdict::PassesBudget,
             pc: state.pc,
             spent: state.spent,
         }),
     }
+}
+
+/// Runs a program on a call from a ledger, exactly as the machine's definition says.
+///
+/// The ledger is given up: only an approved run hands one back. The only error is want of memory.
+pub fn run(alloc: Global, program: &Program, call: &Call, start: Ledger) -> Result<Ran, Memory>
+    ensures value { IfOk result (λ ran. ran ≡ run_of program.now call.now start) }
+    ensures within { IfOk result (λ ran. ran.spent ≤ call.now.budget) }
+{
+    let mut state = start_state(alloc, start)?;
+    let halt = halt_of(alloc, program.bytes(), call, &mut state)?;
+    Ok(ended(halt, state.ledger))
 }

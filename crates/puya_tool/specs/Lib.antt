@@ -5,6 +5,9 @@ pub use Rattle.avm_run.specs.Machine
 pub use Rattle.avm_run.specs.Bytes
 pub use Rattle.avm_run.specs.Form
 pub use Rattle.avm_ops.specs.Code
+pub use Rattle.avm_ops.specs.Immediate
+pub use Rattle.avm_ops.specs.Table
 pub use Rattle.avm_ops.specs.Varint
+pub use Rattle.avm_state.specs.LedgerState
 pub use Rattle.puya_base.specs.Files
 pub use Rattle.puya_base.specs.Causes

@@ -6,10 +6,12 @@ use Rattle.puya_base.specs.declared.faults.FileFault.{FileFault}
 use Rattle.puya_base.specs.declared.faults.FileFault.TheVariants as fault
 use Rattle.puya_base.specs.Files.{Held, ReadGives, ToldBytes, IsFront, max_length}
 use Rattle.puya_base.specs.Causes.{Rose}
-use Rattle.avm_run.specs.declared.machine.Outcome.{Outcome}
-use Rattle.avm_run.specs.declared.machine.Outcome.TheVariants as outcome
-use Rattle.avm_run.specs.declared.machine.Ran.{Ran}
-use Rattle.avm_run.specs.Bytes.{run_of, ended_of}
+use Rattle.avm_state.specs.declared.call.Call.{Call}
+use Rattle.avm_state.specs.LedgerState.{no_entries}
+use Rattle.avm_run.specs.declared.outcome.Outcome.{Outcome}
+use Rattle.avm_run.specs.declared.outcome.Outcome.TheVariants as outcome
+use Rattle.avm_run.specs.declared.outcome.Ran.{Ran}
+use Rattle.avm_run.specs.Bytes.{run_of}
 use Rattle.puya_tool.specs.declared.status.Status.{Status}
 use Rattle.puya_tool.specs.declared.status.Status.TheVariants as status
 use Rattle.puya_tool.specs.declared.status.Answer.{Answer}
@@ -58,15 +60,15 @@ pub record IsRun (held : Held) (words : List (List ℕ)) (ran : Ran) : Type 0 wh
   pub text : List ℕ
   pub source : Sum
   pub call_text : List ℕ
-  pub budget : ℕ
+  pub made : Call
   pub program : List ℕ
   pub words_are : AreCall words file call
   pub source_held : IsHeld held file text
   pub source_is : IsSource text source
   pub call_held : IsHeld held call call_text
-  pub budget_is : HasBudget call_text budget
+  pub budget_is : HasBudget call_text made.budget
   pub serves : Serves source program
-  pub ran_is : ended_of ran ≡ run_of program budget
+  pub ran_is : ran ≡ run_of program made no_entries
 
 pub record IsUnread (held : Held) (words : List (List ℕ)) (name : List ℕ) (f : FileFault) : Type 0 where
   pub file : List ℕ
@@ -90,7 +92,7 @@ fault_text fault.Failed = codes "read failed"
 fault_text fault.Memory = []
 
 abbrev pub outcome_text : Outcome → ℕ → List ℕ
-outcome_text outcome.Approved pc = codes "approved\n"
+outcome_text (outcome.Approved ledger) pc = codes "approved\n"
 outcome_text outcome.Rejected pc = codes "rejected at " ++ decimal pc ++ codes "\n"
 outcome_text outcome.OverBudget pc = codes "over budget at " ++ decimal pc ++ codes "\n"
 outcome_text outcome.OverDepth pc = codes "over depth at " ++ decimal pc ++ codes "\n"
@@ -104,7 +106,7 @@ answer_text (BadBudget name) = name ++ codes ": bad budget\n"
 answer_text (Stopped ran) = outcome_text ran.outcome ran.pc ++ (codes "cost " ++ (decimal ran.spent ++ codes "\n"))
 
 abbrev pub outcome_status : Outcome → Status
-outcome_status outcome.Approved = status.Done
+outcome_status (outcome.Approved ledger) = status.Done
 outcome_status outcome.Rejected = status.Rejected
 outcome_status outcome.OverBudget = status.Stopped
 outcome_status outcome.OverDepth = status.Stopped

@@ -1,8 +1,12 @@
 -- The one form of source, and what it computes.
 use Rattle.std.specs.Prelude.{◌≡◌, ℕ, ◌+◌, ◌*◌, ◌^◌, ◌<◌, ◌≤◌, ◌⊎◌, ◌≢◌, List, ◌∷◌, ◌++◌, codes}
 use Rattle.std.specs.Fmt.{decimal}
-use Rattle.avm_ops.specs.Code.{instr_bytes, plain, with_number}
-use Rattle.avm_run.specs.Machine.{Approved, Rejected, OverBudget, OverDepth}
+use Rattle.avm_ops.specs.declared.instr.Instr.{Instr}
+use Rattle.avm_ops.specs.declared.instr.Imm.TheVariants as imm
+use Rattle.avm_ops.specs.Code.{instr_bytes}
+use Rattle.avm_state.specs.declared.call.Call.{Call}
+use Rattle.avm_state.specs.LedgerState.{LedgerState}
+use Rattle.avm_run.specs.declared.outcome.Outcome.TheVariants.{Approved, Rejected, OverBudget, OverDepth}
 use Rattle.avm_run.specs.Bytes.{run_of}
 use Rattle.avm_run.specs.Form.{IsWellFormed}
 use Rattle.puya_tool.specs.declared.source.Operator.{Operator}
@@ -38,14 +42,22 @@ pub record IsSource (text : List ℕ) (s : Sum) : Type 0 where
   pub right : s.right < 2 ^ 64
   pub is : text ≡ head ++ (decimal s.left ++ 41 ∷ (between s.operator ++ (decimal s.right ++ 41 ∷ tail)))
 
-unfoldable pub program_of : Sum → List ℕ
-program_of s =
-    10 ∷ (instr_bytes (with_number 129 s.left) ++ (instr_bytes (with_number 129 s.right) ++ (instr_bytes (plain (opcode s.operator)) ++ instr_bytes (plain 67))))
+-- an instruction without immediates
+abbrev pub plain : ℕ → Instr
+plain op = record { op = op; imm = imm.Nothing }
 
--- a well-formed program that does what the source says, at every budget
+-- `pushint`
+abbrev pub push : ℕ → Instr
+push n = record { op = 129; imm = imm.Int n }
+
+-- version 10: push both numbers, operate, return
+unfoldable pub program_of : Sum → List ℕ
+program_of s = 10 ∷ (instr_bytes (push s.left) ++ (instr_bytes (push s.right) ++ (instr_bytes (plain (opcode s.operator)) ++ instr_bytes (plain 67))))
+
+-- a well-formed program that does what the source says, in every call, on every ledger, and at every budget; it changes nothing
 pub record Serves (s : Sum) (program : List ℕ) : Type 0 where
   pub well_formed : IsWellFormed program
-  pub approved : (n : ℕ) → (run_of program n).outcome ≡ Approved tt → (1 ≤ value_of s) × (value_of s < 2 ^ 64)
-  pub rejected : (n : ℕ) → (run_of program n).outcome ≡ Rejected → (value_of s ≡ 0) ⊎ (2 ^ 64 ≤ value_of s)
-  pub over_budget : (n : ℕ) → (run_of program n).outcome ≡ OverBudget → n < 166
-  pub over_depth : (n : ℕ) → (run_of program n).outcome ≢ OverDepth
+  pub approved : (k : Call) (l m : LedgerState) → (run_of program k l).outcome ≡ Approved m → (1 ≤ value_of s) × (value_of s < 2 ^ 64) × (m ≡ l)
+  pub rejected : (k : Call) (l : LedgerState) → (run_of program k l).outcome ≡ Rejected → (value_of s ≡ 0) ⊎ (2 ^ 64 ≤ value_of s)
+  pub over_budget : (k : Call) (l : LedgerState) → (run_of program k l).outcome ≡ OverBudget → k.budget < 166
+  pub over_depth : (k : Call) (l : LedgerState) → (run_of program k l).outcome ≢ OverDepth

@@ -2,12 +2,14 @@ ghost use Rattle.std.specs.Prelude.{◌≡◌, ◌++◌, ◌∷◌, ◌<◌, ◌
 ghost use Rattle.puya_tool.specs.declared.source.Sum.{Sum};
 ghost use Rattle.puya_tool.specs.Source.{program_of, opcode, Serves};
 ghost use Rattle.avm_run.specs.Form.{IsWellFormed};
-ghost use Rattle.avm_run.specs.Bytes.{run_of, ended_of};
+ghost use Rattle.avm_run.specs.Bytes.{run_of};
+ghost use Rattle.avm_state.specs.LedgerState.{no_entries};
 
 use crate::source::{Operator, Sum};
 use avm_ops::{Imm, Instr, encode};
 use avm_run::{Program, ProgramFault, Ran, check_program, run};
-use puya_base::{Blob, Memory};
+use avm_state::{Call, Ledger};
+use puya_base::{Blob, List, Memory};
 use std::alloc::Global;
 
 fn opcode_of(operator: Operator) -> u8
@@ -75,9 +77,35 @@ fn program_of_bytes(alloc: Global, code: &[u8]) -> Result<Program, Memory>
     }
 }
 
-/// Runs the program of a source on a budget.
-pub(crate) fn run_sum(alloc: Global, sum: Sum, budget: u64) -> Result<Ran, Memory>
-    ensures { IfOk result (λ ran. ended_of ran ≡ run_of (program_of sum) budget) }
+/// An address of 32 zero bytes.
+fn zero_address(alloc: Global) -> Result<Blob, Memory> {
+    Ok(Blob::from_vec(vec![in alloc; 0; 32]?))
+}
+
+/// The plain call with a budget: application 1, no arguments, all addresses zero.
+pub(crate) fn plain_call(alloc: Global, budget: u64) -> Result<Call, Memory>
+    ensures { IfOk result (λ call. call.budget ≡ budget) }
+{
+    Ok(Call {
+        application: 1,
+        creating: false,
+        on_completion: 0,
+        args: List::new(alloc),
+        sender: zero_address(alloc)?,
+        fee: 0,
+        note: Blob::new(alloc),
+        accounts: List::new(alloc),
+        boxes: List::new(alloc),
+        round: 0,
+        timestamp: 0,
+        creator: zero_address(alloc)?,
+        budget,
+    })
+}
+
+/// Runs the program of a source on a call, from a ledger with nothing in it.
+pub(crate) fn run_sum(alloc: Global, sum: Sum, call: Call) -> Result<Ran, Memory>
+    ensures { IfOk result (λ ran. ran ≡ run_of (program_of sum) call no_entries) }
 {
     let Sum {
         left: _left,
@@ -86,7 +114,7 @@ pub(crate) fn run_sum(alloc: Global, sum: Sum, budget: u64) -> Result<Ran, Memor
     } = sum;
     let code = built(alloc, sum)?;
     let program = program_of_bytes(alloc, code.as_slice())?;
-    run(alloc, &program, budget)
+    run(alloc, &program, &call, Ledger::empty(alloc))
 }
 
 /// The program does what its source says.

@@ -1,0 +1,8 @@
+use Rattle.std.proofs.Common.{sym, ap, ◌∙◌, length}
+use Rattle.std.specs.FinMap as map
+use Rattle.avm_state.specs.KeyLaws.{local_cmp_total}
+use Rattle.avm_state.proofs.Places as places
+use Rattle.avm_state.proofs.local_map.LocalMap.len.Goals as goal
+
+pub returns : goal.returns
+returns c = ap length c.as_slice.ensures.value ∙ sym (places.map_len local_cmp_total c.self.inside.entries.items c.self.invariant) ∙ ap map.len c.self.view_is

@@ -1,0 +1,14 @@
+pub mod ByteLaws
+pub mod NumberLaws
+pub mod LiteralLaws
+pub mod PieceLaws
+pub mod ScanLaws
+pub mod LineSteps
+pub mod LineLaws
+pub mod FirstFault
+pub mod PiecesStand
+pub mod Settled
+pub mod Lengths
+pub mod SpanLaws
+pub mod WordLaws
+pub mod PlaceLaws

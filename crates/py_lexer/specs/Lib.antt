@@ -1,0 +1,11 @@
+pub mod Bytes
+pub mod Words
+pub mod Numbers
+pub mod Literals
+pub mod Pieces
+pub mod Layout
+pub mod Scan
+pub mod Lines
+pub mod Tokens
+pub mod Spans
+pub mod Longest
