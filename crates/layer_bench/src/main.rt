@@ -1,9 +1,10 @@
-//! Runs loops that spend a whole budget, so that a script can time the machine.
+//! Runs layers on large inputs, so that a script can time them: the machine on loops that spend a whole budget, and the lexer on a long source.
 #![tactic(auto)]
 
 use avm_run::{Outcome, Ran, check_program, run};
 use avm_state::{Call, Ledger};
 use puya_base::{Blob, List, Memory};
+use py_lexer::tokens;
 use std::alloc::Global;
 use std::{env, io};
 
@@ -74,7 +75,39 @@ fn report(rt: &(impl Print + AllocGlobal), name: &str, code: &[u8], rounds: u64)
     }
 }
 
-/// The name of a loop and how often it runs: the words after the program's name, or all loops once.
+/// A line of a source, of 32 bytes.
+const LINE: &[u8] = b"total = total + f(x, 'abc')[1:]\n";
+
+/// So many KiB of lines.
+fn long_source(alloc: Global, kib: u64) -> Result<Blob, Memory> {
+    let mut source = Blob::new(alloc);
+    for _line in 0..kib.min(1024) * 32 {
+        source.extend(LINE)?;
+    }
+    Ok(source)
+}
+
+/// How many tokens so many KiB of lines have.
+fn count_tokens(alloc: Global, kib: u64) -> Result<Option<usize>, Memory> {
+    let source = long_source(alloc, kib)?;
+    if source.len() > 1048576 {
+        return Ok(None);
+    }
+    match tokens(alloc, source.as_slice()) {
+        Ok(list) => Ok(Some(list.len())),
+        Err(_) => Ok(None),
+    }
+}
+
+fn report_tokens(rt: &(impl Print + AllocGlobal), kib: u64) -> io::Result<()> {
+    match count_tokens(rt.alloc(), kib) {
+        Ok(Some(count)) => println!(rt; "tokens: {kib} KiB, {count} tokens"),
+        Ok(None) => println!(rt; "tokens: refused"),
+        Err(_) => println!(rt; "tokens: out of memory"),
+    }
+}
+
+/// The name of a layer's loop, and how often it runs or how many KiB it reads: the words after the program's name, or all once.
 fn main(rt: HostRuntime) -> io::Result<()> {
     let mut words = Vec::new(rt.alloc());
     for word in env::args(&rt)? {
@@ -96,6 +129,9 @@ fn main(rt: HostRuntime) -> io::Result<()> {
     }
     if name == "all" || name == "storage" {
         report(&rt, "storage", STORAGE, rounds)?;
+    }
+    if name == "all" || name == "tokens" {
+        report_tokens(&rt, rounds)?;
     }
     Ok(())
 }
