@@ -198,6 +198,8 @@ struct CountingSink {
 }
 
 impl Sink for CountingSink {
+    ghost use Rattle.std.specs.Prelude.{Some};
+
     ghost taken = { λ s. Some s.inner.bytes };
 
     ghost faults = { λ s. s.inner.calls.faults };
