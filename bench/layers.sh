@@ -1,6 +1,6 @@
 #!/bin/sh
 # Times layers in one run: the machine in units of cost a second on loops of arithmetic, byte strings and storage,
-# each run spending a whole budget of 11,200, and the lexer on sources of 256, 512 and 1024 KiB. No part of the gate.
+# each run spending a whole budget of 11,200, and the lexer on sources of 256, 512 and 1024 KiB. The times are no part of the gate.
 here=$(CDPATH='' cd -- "$(dirname -- "$0")/.." && pwd) || exit 1
 program=$here/crates/layer_bench/out/layer_bench
 [ -x "$program" ] || (cd "$here/crates/layer_bench" && rt run) >/dev/null || exit 1
