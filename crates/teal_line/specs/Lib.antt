@@ -1,0 +1,9 @@
+pub mod Words
+pub mod Mnemonics
+pub mod Operands
+pub mod Reading
+pub mod Printing
+pub use Rattle.avm_asm.specs.Listing
+pub use Rattle.avm_ops.specs.Code
+pub use Rattle.avm_ops.specs.Immediate
+pub use Rattle.avm_ops.specs.Table

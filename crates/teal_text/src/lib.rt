@@ -1,0 +1,6 @@
+//! TEAL text: a program printed as text, and text read as lines.
+#![tactic(auto)]
+
+mod fault;
+
+pub use fault::TealFault;
