@@ -3,8 +3,8 @@ use Rattle.std.specs.Prelude.{◌≡◌, ℕ, ℤ, ◌+◌, List, ◌∷◌, [],
 use Rattle.avm_asm.specs.declared.line.Line.{Line}
 use Rattle.avm_asm.specs.declared.line.AsmFault.{AsmFault}
 use Rattle.avm_asm.specs.declared.line.AsmFault.TheVariants.{NoLabel, TwiceLabel, Far, Memory}
-use Rattle.avm_asm.specs.Listing.{line_size, named_by, bytes_from, bytes_of, instr_in, distance, place_in}
-use Rattle.avm_asm.specs.Assembled.{branches, branches_to, first_far, first_place, is_near, symbols_of, twice}
+use Rattle.avm_asm.specs.Listing.{line_size, named_by, bytes_from, bytes_of, instr_in, distance, place_in, symbol_at}
+use Rattle.avm_asm.specs.Assembled.{branches, branches_to, first_again, first_far, first_place, is_near, symbols_of, twice}
 
 -- a label is put at a place, unless it stands already
 abbrev pub Adds : Result ⊤ AsmFault → List (ℕ × ℕ) → ℕ → ℕ → List (ℕ × ℕ) → Type 0
@@ -13,6 +13,14 @@ Adds (Err (NoLabel k)) old label at new = ⊥
 Adds (Err (TwiceLabel k)) old label at new = (is_some (place_in old label) ≡ true) × (k ≡ label)
 Adds (Err (Far k d)) old label at new = ⊥
 Adds (Err Memory) old label at new = Unit {0}
+
+-- the label of a line is put at a place, unless it stands already
+abbrev pub AddsLabel : Result ⊤ AsmFault → List (ℕ × ℕ) → Line → ℕ → List (ℕ × ℕ) → Type 0
+AddsLabel (Ok u) old l at new = (first_again old (symbol_at at l) ≡ None) × (new ≡ old ++ symbol_at at l)
+AddsLabel (Err (NoLabel k)) old l at new = ⊥
+AddsLabel (Err (TwiceLabel k)) old l at new = first_again old (symbol_at at l) ≡ Some k
+AddsLabel (Err (Far k d)) old l at new = ⊥
+AddsLabel (Err Memory) old l at new = Unit {0}
 
 -- the symbol table of a program, or the first label that stands a second time
 abbrev pub Places : Result (List (ℕ × ℕ)) AsmFault → List Line → Type 0

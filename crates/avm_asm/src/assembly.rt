@@ -2,7 +2,7 @@ ghost use Rattle.std.specs.Prelude.{◌≡◌, ◌<◌, ◌^◌, length, IfOk};
 ghost use Rattle.std.specs.List.{flat_map};
 ghost use Rattle.avm_asm.specs.Assembled.{Assembles, assembled, code_size, first_missing};
 ghost use Rattle.avm_asm.specs.Listing.{AreLines, named_by};
-ghost use Rattle.avm_asm.specs.Steps.{Places as PlacesOf};
+ghost use Rattle.avm_asm.specs.Steps.{AddsLabel, Places as PlacesOf};
 
 use crate::emit::code_of;
 use crate::line::{AsmFault, Line, Lines};
@@ -14,6 +14,17 @@ use std::alloc::Global;
 /// So many bytes that a place or a distance could pass a number of 64 bits; no memory holds them.
 const TOO_MANY_BYTES: u64 = 0x4000_0000_0000_0000;
 
+/// Puts the label of a line, if it is one, at a place.
+fn add_label(places: &mut Places, line: &Line, at: usize) -> Result<(), AsmFault>
+    requires { at < 2 ^ 62 }
+    ensures { AddsLabel result places.old line.now at places.new }
+{
+    match line {
+        Line::Label(label) => places.add(*label, at),
+        _ => Ok(()),
+    }
+}
+
 /// The places of all labels, or the first label that stands a second time.
 fn places_of(alloc: Global, lines: &[Line]) -> Result<Places, AsmFault>
     requires { code_size lines.now < 2 ^ 62 }
@@ -22,9 +33,7 @@ fn places_of(alloc: Global, lines: &[Line]) -> Result<Places, AsmFault>
     let mut places = Places::new(alloc);
     let mut at = 1;
     for line in lines {
-        if let Line::Label(label) = line {
-            places.add(*label, at)?;
-        }
+        add_label(&mut places, line, at)?;
         at += line_len(line) as usize;
     }
     Ok(places)
