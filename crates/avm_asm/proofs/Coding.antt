@@ -12,7 +12,7 @@ use Rattle.avm_asm.specs.Listing.{line_size, lines_size, named_by, instr_in, byt
 use Rattle.avm_asm.specs.Assembled.{first_place, code_size, is_near, branches, branches_to, first_far}
 use Rattle.avm_asm.proofs.Forms.{line_length}
 
-first_far-append : (cs bs : List (ℕ × ℤ)) → first_far (cs ++ bs) ≡ option_or (first_far cs) (first_far bs)
+pub first_far-append : (cs bs : List (ℕ × ℤ)) → first_far (cs ++ bs) ≡ option_or (first_far cs) (first_far bs)
 first_far-append cs bs = find-append (λ b. not (is_near b.1)) cs bs
 
 -- the code so far, before the bytes of the lines that are left, is that of the whole, and so far no branch is too far

@@ -5,3 +5,4 @@ pub mod Coding
 pub mod Lines
 pub mod Placing
 pub mod Judging
+pub mod ReadBack
