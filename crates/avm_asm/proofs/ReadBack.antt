@@ -127,13 +127,13 @@ read_at spelling ls before after l code i lines split ok is =
     let front : List ℕ = 10 ∷ bytes_from t first_place before in
     let rest : List ℕ = bytes_from t (pc + line_size l) after in
     let bytes : code ≡ front ++ (instr_bytes i ++ rest) =
-        (has_code ls code ok).bytes
-        ∙ ap (λ xs. 10 ∷ bytes_from t first_place xs) split
-        ∙ ap (λ bs. 10 ∷ bs) (bytes-split t first_place before l after)
-        ∙ ap (λ o. front ++ (bytes_of o ++ rest)) is in
+    (has_code ls code ok).bytes
+    ∙ ap (λ xs. 10 ∷ bytes_from t first_place xs) split
+    ∙ ap (λ bs. 10 ∷ bs) (bytes-split t first_place before l after)
+    ∙ ap (λ o. front ++ (bytes_of o ++ rest)) is in
     let place : pc ≡ length front = omega (arith, bytes_length t first_place before) in
     let left : drop pc code ≡ instr_bytes i ++ rest =
-        ap (λ n. drop n code) place ∙ ap (drop (length front)) bytes ∙ drop-append_seam front (instr_bytes i ++ rest) in
+    ap (λ n. drop n code) place ∙ ap (drop (length front)) bytes ∙ drop-append_seam front (instr_bytes i ++ rest) in
     let size : pc + length (instr_bytes i) ≡ pc + line_size l = omega (arith, line_length t (pc + line_size l) l, ap (λ o. length (bytes_of o)) is) in
     ap (decoded pc) left
     ∙ spelling i pc rest (form_at ls before after l code i lines split ok is)

@@ -52,12 +52,7 @@ fn offset(places: &Places, end: usize, label: u32) -> Result<i16, AsmFault>
 }
 
 /// The offsets to labels of an instruction that ends at a place, or the first that is too far.
-fn offsets(
-    alloc: Global,
-    places: &Places,
-    end: usize,
-    labels: &[u32],
-) -> Result<Jumps, AsmFault>
+fn offsets(alloc: Global, places: &Places, end: usize, labels: &[u32]) -> Result<Jumps, AsmFault>
     requires { end < 2 ^ 62 }
     ensures value { Offsets result places.now end labels.now }
     ensures near { IfOk result (All IsSigned16) }
@@ -113,12 +108,7 @@ fn add_table(
     Ok(())
 }
 
-fn add_line(
-    alloc: Global,
-    places: &Places,
-    line: &Line,
-    code: &mut Blob,
-) -> Result<(), AsmFault>
+fn add_line(alloc: Global, places: &Places, line: &Line, code: &mut Blob) -> Result<(), AsmFault>
     requires form { IsLine line.now }
     requires low { length code.old + line_size line.now < 2 ^ 62 }
     ensures { AddsLine result places.now line.now code.old code.new }

@@ -9,5 +9,5 @@ abbrev pub invariant-loop-label : goal.invariant-loop-label
 invariant-loop-label l = record {
   same_branch : first_far (branches_to l.places l.end (drop l.label-index l.labels)) ≡ first_far (branches_to l.places l.end l.labels);
   same_jumps : l.jumps ++ map (distance l.places l.end) (drop l.label-index l.labels) ≡ map (distance l.places l.end) l.labels;
-  near : All IsSigned16 l.jumps
+  near : All IsSigned16 l.jumps;
 }
