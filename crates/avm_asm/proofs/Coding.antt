@@ -1,8 +1,7 @@
 -- The code of lines, line by line.
-use Rattle.std.proofs.Common.{◌≡◌, ℕ, ℤ, suc, ◌+◌, ◌*◌, ◌<◌, ◌^◌, List, [], ◌∷◌, ◌++◌, length, Option, Some, None, Err, refl, sym, arith, ap, ◌∙◌, length-append, append_assoc}
-use Rattle.std.specs.Prelude.{not, find}
+use Rattle.std.proofs.Common.{◌≡◌, ℕ, ℤ, ◌+◌, List, [], ◌∷◌, ◌++◌, length, Some, None, Err, refl, sym, arith, ap, ◌∙◌, length-append, append_assoc}
+use Rattle.std.specs.Prelude.{not}
 use Rattle.std.specs.Option.{option_or}
-use Rattle.std.proofs.lemmas.List.{append-nil}
 use Rattle.std.proofs.lemmas.List.Folds.{find-append}
 use Rattle.avm_asm.specs.declared.line.Line.{Line}
 use Rattle.avm_asm.specs.declared.line.AsmFault.{AsmFault}

@@ -1,8 +1,7 @@
 -- What lines become has the form of its row, and as many bytes as the line takes.
-use Rattle.std.proofs.Common.{◌≡◌, ℕ, ℤ, suc, ◌+◌, ◌*◌, ◌<◌, ◌^◌, List, [], ◌∷◌, ◌++◌, length, map, pos, negsuc, Bool, true, false, Option, Some, None, refl, arith, ap, ◌∙◌, length-append, FitsSigned}
+use Rattle.std.proofs.Common.{◌≡◌, ℕ, ℤ, ◌+◌, ◌<◌, List, [], ◌∷◌, length, map, refl, arith, length-append, FitsSigned}
 use Rattle.std.specs.List.{All}
 use Rattle.std.specs.Int.{w16}
-use Rattle.std.proofs.lemmas.Bool.Decides.{nat_tests}
 use Rattle.std.proofs.lemmas.List.{length-map}
 use Rattle.avm_ops.specs.declared.instr.Imm.TheVariants as imm
 use Rattle.avm_ops.specs.Code.{HasForm}
@@ -15,7 +14,6 @@ use Rattle.avm_asm.specs.declared.line.JumpKind.TheVariants.{Bnz, Bz, B, Callsub
 use Rattle.avm_asm.specs.declared.line.TableKind.{TableKind}
 use Rattle.avm_asm.specs.declared.line.TableKind.TheVariants.{Switch, Match}
 use Rattle.avm_asm.specs.Listing.{jump_opcode, table_opcode, line_size, lines_size, instr_in, bytes_of, bytes_from, distance}
-use Rattle.avm_asm.specs.Assembled.{is_near}
 use Rattle.avm_asm.proofs.Lengths.{length-jumps}
 
 pub jump_has_form : (kind : JumpKind) (j : ℤ) → FitsSigned w16 j → HasForm (record { op = jump_opcode kind; imm = imm.Jump j })

@@ -1,5 +1,5 @@
 -- The faults of lines, one kind after the other.
-use Rattle.std.proofs.Common.{◌≡◌, ℕ, ℤ, ◌+◌, ◌<◌, Bool, true, false, List, [], ◌∷◌, ◌++◌, length, drop, get_or, Option, Some, None, Result, Ok, Err, refl, sym, arith, ap, ◌∙◌}
+use Rattle.std.proofs.Common.{◌≡◌, ℕ, ◌+◌, ◌<◌, List, ◌∷◌, length, drop, get_or, Some, None, Result, Ok, Err, sym, ap, ◌∙◌}
 use Rattle.std.specs.Prelude.{is_none}
 use Rattle.std.specs.Option.{option_or}
 use Rattle.std.specs.List.{flat_map}
@@ -8,7 +8,7 @@ use Rattle.avm_asm.specs.declared.line.Line.{Line}
 use Rattle.avm_asm.specs.declared.line.AsmFault.{AsmFault}
 use Rattle.avm_asm.specs.declared.line.AsmFault.TheVariants.{NoLabel, TwiceLabel, Far, Memory}
 use Rattle.avm_asm.specs.Listing.{named_by, place_in, bytes_from}
-use Rattle.avm_asm.specs.Assembled.{assembled, Assembles, branches, code_unless_far, code_unless_missing, code_unless_twice, far, first_far, first_missing, first_place, missing, symbols_of, twice}
+use Rattle.avm_asm.specs.Assembled.{assembled, Assembles, branches, code_unless_far, code_unless_missing, code_unless_twice, first_far, first_missing, first_place}
 use Rattle.avm_asm.specs.Steps.{Emits, Places}
 use Rattle.avm_asm.proofs.Lines.{left_from}
 

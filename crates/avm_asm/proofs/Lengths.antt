@@ -1,5 +1,5 @@
 -- Lengths of spellings.
-use Rattle.std.proofs.Common.{◌≡◌, ℕ, ℤ, suc, ◌+◌, ◌*◌, ◌<◌, ◌^◌, List, [], ◌∷◌, ◌++◌, length, refl, arith, ap, ◌∙◌, length-append}
+use Rattle.std.proofs.Common.{◌≡◌, ℕ, ℤ, ◌+◌, ◌*◌, ◌<◌, ◌^◌, List, [], ◌∷◌, length, refl, arith, length-append}
 use Rattle.std.specs.List.{flat_map}
 use Rattle.avm_ops.specs.Immediate.{jump_bytes}
 use Rattle.avm_asm.specs.Assembled.{counted}

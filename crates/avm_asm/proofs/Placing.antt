@@ -1,12 +1,12 @@
 -- The places of labels, line by line.
-use Rattle.std.proofs.Common.{◌≡◌, ℕ, ◌+◌, ◌<◌, ◌^◌, ◌≤◌, Bool, true, false, List, [], ◌∷◌, ◌++◌, length, Option, Some, None, Ok, Err, refl, sym, arith, ap, ◌∙◌, append_assoc, if◌then◌else◌, is_some}
+use Rattle.std.proofs.Common.{◌≡◌, ℕ, ◌+◌, Bool, true, false, List, [], ◌∷◌, ◌++◌, Option, Some, None, Ok, Err, refl, sym, arith, ap, ◌∙◌, append_assoc, if◌then◌else◌, is_some}
 use Rattle.std.specs.Option.{option_or}
 use Rattle.std.proofs.lemmas.List.{append-nil}
 use Rattle.avm_asm.specs.declared.line.Line.{Line}
 use Rattle.avm_asm.specs.declared.line.AsmFault.{AsmFault}
 use Rattle.avm_asm.specs.declared.line.AsmFault.TheVariants.{NoLabel, TwiceLabel, Far, Memory}
 use Rattle.avm_asm.specs.Listing.{line_size, lines_size, symbol_at, symbols, place_in}
-use Rattle.avm_asm.specs.Assembled.{first_place, code_size, counted, first_again, symbols_of, twice}
+use Rattle.avm_asm.specs.Assembled.{first_place, code_size, first_again, symbols_of, twice}
 use Rattle.avm_asm.specs.Steps.{AddsLabel, Places}
 
 -- the first of two tables that are joined

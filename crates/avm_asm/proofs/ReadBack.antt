@@ -1,6 +1,5 @@
 -- The code of lines is read back line by line.
-use Rattle.std.proofs.Common.{◌≡◌, ℕ, ℤ, suc, ◌+◌, ◌*◌, ◌<◌, ◌^◌, pos, negsuc, Bool, true, false, cond, not, List, [], ◌∷◌, ◌++◌, length, drop, map, get_or, Option, Some, None, Result, Ok, Err, refl, sym, subst, arith, ap, ◌∙◌, append_assoc, FitsSigned, rules}
-use Rattle.std.specs.Prelude.{nat_lt}
+use Rattle.std.proofs.Common.{◌≡◌, ℕ, ℤ, ◌+◌, ◌<◌, ◌^◌, pos, negsuc, Bool, true, false, cond, not, List, [], ◌∷◌, ◌++◌, length, drop, map, Option, Some, None, Result, Ok, refl, sym, subst, arith, ap, ◌∙◌, append_assoc, FitsSigned, rules}
 use Rattle.std.specs.Option.{option_or}
 use Rattle.std.specs.List.{All}
 use Rattle.std.specs.Int.{w16}
@@ -14,8 +13,7 @@ use Rattle.avm_ops.specs.Code.{HasForm, instr_bytes, decoded, decoded_at}
 use Rattle.avm_ops.specs.Immediate.{IsSigned16}
 use Rattle.avm_asm.specs.declared.line.Line.{Line}
 use Rattle.avm_asm.specs.declared.line.Line.TheVariants.{Op, Label, Jump, Table}
-use Rattle.avm_asm.specs.declared.line.AsmFault.{AsmFault}
-use Rattle.avm_asm.specs.Listing.{AreLines, IsLine, line_size, lines_size, named_by, place_in, distance, instr_in, bytes_of, bytes_from}
+use Rattle.avm_asm.specs.Listing.{AreLines, IsLine, line_size, lines_size, named_by, distance, instr_in, bytes_of, bytes_from}
 use Rattle.avm_asm.specs.Assembled.{assembled, branches, branches_to, code_size, code_unless_far, code_unless_missing, code_unless_twice, far, first_far, first_place, is_near, missing, symbols_of, twice}
 use Rattle.avm_asm.proofs.Coding.{first_far-append}
 use Rattle.avm_asm.proofs.Forms.{bytes_length, jump_has_form, line_length, table_has_form}

@@ -1,5 +1,5 @@
 -- The code of lines, or why there is none (AVM specification, "Encoding": the version byte, then the instructions, with offsets of 16 signed bits).
-use Rattle.std.specs.Prelude.{◌≡◌, ℕ, ℤ, ◌+◌, ◌-◌, ◌^◌, ◌≤◌, pos, negsuc, nat_lt, min, not, Bool, if◌then◌else◌, List, [], ◌∷◌, ◌++◌, map, find, is_none, is_some, Option, Some, None, Result, Ok, Err}
+use Rattle.std.specs.Prelude.{◌≡◌, ℕ, ℤ, ◌+◌, ◌-◌, ◌^◌, pos, negsuc, nat_lt, min, not, Bool, if◌then◌else◌, List, [], ◌∷◌, ◌++◌, map, find, is_none, is_some, Option, Some, None, Result, Ok, Err}
 use Rattle.std.specs.List.{flat_map}
 use Rattle.avm_asm.specs.declared.line.Line.{Line}
 use Rattle.avm_asm.specs.declared.line.AsmFault.{AsmFault}

@@ -1,5 +1,5 @@
 -- What each step of the assembler answers.
-use Rattle.std.specs.Prelude.{◌≡◌, ℕ, ℤ, ◌+◌, List, ◌∷◌, [], ◌++◌, length, map, Option, Some, None, Result, Ok, Err, ⊤, is_some, true, false}
+use Rattle.std.specs.Prelude.{◌≡◌, ℕ, ℤ, ◌+◌, List, ◌∷◌, [], ◌++◌, length, map, Some, None, Result, Ok, Err, ⊤, is_some, true, false}
 use Rattle.avm_asm.specs.declared.line.Line.{Line}
 use Rattle.avm_asm.specs.declared.line.AsmFault.{AsmFault}
 use Rattle.avm_asm.specs.declared.line.AsmFault.TheVariants.{NoLabel, TwiceLabel, Far, Memory}

@@ -1,6 +1,5 @@
 use Rattle.std.proofs.Common.{arith, ap, length, ◌<◌}
 use Rattle.std.proofs.lemmas.List.{length-map}
-use Rattle.avm_asm.specs.Listing.{distance}
 use Rattle.avm_asm.proofs.Forms.{table_has_form}
 use Rattle.avm_asm.proofs.emit.add_table.Goals as goal
 

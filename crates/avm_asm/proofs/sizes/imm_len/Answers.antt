@@ -1,5 +1,4 @@
-use Rattle.std.proofs.Common.{arith, length, ◌≡◌, ◌*◌, ◌+◌, rules}
-use Rattle.avm_ops.specs.Immediate.{imm_bytes}
+use Rattle.std.proofs.Common.{arith}
 use Rattle.avm_asm.proofs.Lengths.{length-jumps}
 use Rattle.avm_asm.proofs.sizes.imm_len.Goals as goal
 

@@ -1,7 +1,5 @@
-use Rattle.std.proofs.Common.{arith, ◌+◌, length-append}
+use Rattle.std.proofs.Common.{arith, length-append}
 use Rattle.std.proofs.lemmas.List.{drop_all}
-use Rattle.std.specs.List.{flat_map}
-use Rattle.avm_ops.specs.Varint.{number_bytes}
 use Rattle.avm_asm.proofs.Lengths.{counted_whole}
 use Rattle.avm_asm.proofs.sizes.numbers_len.Goals as goal
 

@@ -1,8 +1,5 @@
-use Rattle.std.proofs.Common.{sym, subst, List, ℕ, ◌<◌, ◌^◌, Result}
+use Rattle.std.proofs.Common.{sym, subst, List, ℕ, ◌<◌, ◌^◌}
 use Rattle.std.specs.List.{All}
-use Rattle.std.specs.Prelude.{⊤}
-use Rattle.avm_asm.specs.declared.line.AsmFault.{AsmFault}
-use Rattle.avm_asm.specs.Steps.{Adds}
 use Rattle.avm_asm.proofs.Tables.{low_insert, put_last, put_twice}
 use Rattle.avm_asm.proofs.places.Places.add.Goals as goal
 use Rattle.avm_asm.proofs.places.Places.add.Goals.{in-Ok-None, in-Ok-Some, in-Err}
