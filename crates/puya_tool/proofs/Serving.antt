@@ -26,11 +26,11 @@ use Rattle.puya_tool.specs.Source.{value_of, result_of, opcode, plain, program_o
 use Rattle.puya_tool.proofs.WellFormed.{Parts, parts, read_at, push_form, op_form, return_form, well_formed}
 
 -- the machine at a place, with so much spent and a stack; all else as at the start
-abbrev at_place : State → ℕ → ℕ → List Value → State
+abbrev pub at_place : State → ℕ → ℕ → List Value → State
 at_place s pc spent stack = record s { pc = pc; spent = spent; entering = false; stack = stack }
 
 -- at a place where an instruction stands, that one is fetched
-turn_at : (front rest : List ℕ) (i : Instr) (code : List ℕ) (k : Call) (s : State) → HasForm i → code ≡ front ++ (instr_bytes i ++ rest) → s.pc ≡ length front
+pub turn_at : (front rest : List ℕ) (i : Instr) (code : List ℕ) (k : Call) (s : State) → HasForm i → code ≡ front ++ (instr_bytes i ++ rest) → s.pc ≡ length front
     → turn (code_of code) k s ≡ fetched k s (Some (standing_of i (s.pc + length (instr_bytes i))))
 unfolding turn
 turn_at front rest i code k s form is at = ap (λ r. fetched k s (standing r)) (read_at front rest i code s.pc form is at)
@@ -45,7 +45,7 @@ run_step_by P code k fuel s st false is f t over on =
     subst P (sym (stepping code k s fuel (fuel - 1) f ∙ ap (goes_on code k (fuel - 1)) t)) (on (grind (arith, nat_tests)))
 
 -- a run that stops here for its budget, or goes on
-run_step : (P : Ran → Type 0) (code : Code) (k : Call) (fuel : ℕ) (s : State) (st : Standing) → s.spent + fuel ≡ k.budget + 1 → s.spent ≤ k.budget → (shape_of st.instr).cost ≡ 1
+pub run_step : (P : Ran → Type 0) (code : Code) (k : Call) (fuel : ℕ) (s : State) (st : Standing) → s.spent + fuel ≡ k.budget + 1 → s.spent ≤ k.budget → (shape_of st.instr).cost ≡ 1
     → turn code k s ≡ fetched k s (Some st)
     → (k.budget < s.spent + 1 → P (record { outcome = OverBudget; pc = s.pc; spent = s.spent }))
     → (s.spent + 1 ≤ k.budget → P (goes_on code k (fuel - 1) (perform st k s)))
@@ -55,7 +55,7 @@ run_step P code k fuel s st count low cost t over on =
     = ap (λ (c : ℕ). if nat_lt k.budget (s.spent + c) then stop OverBudget s.pc s.spent else perform st k s) cost in
     run_step_by P code k fuel s st (nat_lt k.budget (s.spent + 1)) refl (omega arith) (t ∙ same) over on
 
-push_cost : (n : ℕ) → (shape_of (push n)).cost ≡ 1
+pub push_cost : (n : ℕ) → (shape_of (push n)).cost ≡ 1
 unfolding row_of table
 push_cost n = refl
 
@@ -64,11 +64,11 @@ unfolding row_of table
 op_cost Plus = refl
 op_cost Times = refl
 
-return_cost : (shape_of (plain 67)).cost ≡ 1
+pub return_cost : (shape_of (plain 67)).cost ≡ 1
 unfolding row_of table
 return_cost = refl
 
-first_push : (s : State) (k : Call) (a pc next : ℕ) → perform (standing_of (push a) next) k (at_place s pc 0 []) ≡ Next (at_place s next 1 (value.Int a ∷ []))
+pub first_push : (s : State) (k : Call) (a pc next : ℕ) → perform (standing_of (push a) next) k (at_place s pc 0 []) ≡ Next (at_place s next 1 (value.Int a ∷ []))
 unfolding row_of table act operand_act effect constant_row
 first_push s k a pc next = refl
 

@@ -61,3 +61,19 @@ pub record Serves (s : Sum) (program : List ℕ) : Type 0 where
   pub rejected : (k : Call) (l : LedgerState) → (run_of program k l).outcome ≡ Rejected → (value_of s ≡ 0) ⊎ (2 ^ 64 ≤ value_of s)
   pub over_budget : (k : Call) (l : LedgerState) → (run_of program k l).outcome ≡ OverBudget → k.budget < 166
   pub over_depth : (k : Call) (l : LedgerState) → (run_of program k l).outcome ≢ OverDepth
+
+-- the name of the contract
+abbrev pub contract_name : List ℕ
+contract_name = codes "T"
+
+-- version 10: push 1, return
+unfoldable pub clear_program : List ℕ
+clear_program = 10 ∷ (instr_bytes (push 1) ++ instr_bytes (plain 67))
+
+-- a well-formed program that does what a clear state program says that gives 1: it approves and changes nothing
+pub record IsClear (program : List ℕ) : Type 0 where
+  pub well_formed : IsWellFormed program
+  pub approved : (k : Call) (l m : LedgerState) → (run_of program k l).outcome ≡ Approved m → m ≡ l
+  pub rejected : (k : Call) (l : LedgerState) → (run_of program k l).outcome ≢ Rejected
+  pub over_budget : (k : Call) (l : LedgerState) → (run_of program k l).outcome ≡ OverBudget → k.budget < 142
+  pub over_depth : (k : Call) (l : LedgerState) → (run_of program k l).outcome ≢ OverDepth

@@ -1,15 +1,15 @@
 ghost use Rattle.std.specs.Prelude.{◌≡◌, ◌++◌, ◌∷◌, ◌<◌, ◌^◌, IfOk};
 ghost use Rattle.puya_tool.specs.declared.source.Sum.{Sum};
-ghost use Rattle.puya_tool.specs.Source.{program_of, opcode, Serves};
+ghost use Rattle.puya_tool.specs.Source.{program_of, clear_program, opcode, IsClear, Serves};
 ghost use Rattle.avm_run.specs.Form.{IsWellFormed};
 ghost use Rattle.avm_run.specs.Bytes.{run_of};
-ghost use Rattle.avm_state.specs.LedgerState.{no_entries};
+ghost use Rattle.puya_tool.specs.Commands.{picked};
 
 use crate::source::{Operator, Sum};
 use avm_ops::{Imm, Instr, encode};
 use avm_run::{Program, ProgramFault, Ran, check_program, run};
-use avm_state::{Call, Ledger};
-use puya_base::{Blob, List, Memory};
+use call_file::Saved;
+use puya_base::{Blob, Memory};
 use std::alloc::Global;
 
 fn opcode_of(operator: Operator) -> u8
@@ -77,47 +77,68 @@ fn program_of_bytes(alloc: Global, code: &[u8]) -> Result<Program, Memory>
     }
 }
 
-/// An address of 32 zero bytes.
-fn zero_address(alloc: Global) -> Result<Blob, Memory> {
-    Ok(Blob::from_vec(vec![in alloc; 0; 32]?))
+/// The program of a clear state program that gives 1.
+#[tactic(auto, unfolding(crate::specs::Source::clear_program))]
+fn clear_built(alloc: Global) -> Result<Blob, Memory>
+    ensures { IfOk result (λ p. p ≡ clear_program) }
+{
+    let mut code = Blob::new(alloc);
+    code.push(10)?;
+    encode(
+        alloc,
+        &Instr {
+            op: 129,
+            imm: Imm::Int(1),
+        },
+        &mut code,
+    )?;
+    encode(
+        alloc,
+        &Instr {
+            op: 67,
+            imm: Imm::Nothing,
+        },
+        &mut code,
+    )?;
+    Ok(code)
 }
 
-/// The plain call with a budget: application 1, no arguments, all addresses zero.
-pub(crate) fn plain_call(alloc: Global, budget: u64) -> Result<Call, Memory>
-    ensures { IfOk result (λ call. call.budget ≡ budget) }
+/// The on-completion number that asks for the clear state program (AVM specification, "OnCompletion").
+const CLEAR_STATE: u8 = 3;
+
+/// The bytes of the program that a call of the source runs.
+fn picked_code(alloc: Global, sum: Sum, on_completion: u8) -> Result<Blob, Memory>
+    ensures { IfOk result (λ p. p ≡ picked on_completion (program_of sum) clear_program) }
 {
-    Ok(Call {
-        application: 1,
-        creating: false,
-        on_completion: 0,
-        args: List::new(alloc),
-        sender: zero_address(alloc)?,
-        fee: 0,
-        note: Blob::new(alloc),
-        accounts: List::new(alloc),
-        boxes: List::new(alloc),
-        round: 0,
-        timestamp: 0,
-        creator: zero_address(alloc)?,
-        budget,
-    })
+    if on_completion == CLEAR_STATE {
+        clear_built(alloc)
+    } else {
+        built(alloc, sum)
+    }
 }
 
-/// Runs the program of a source on a call, from a ledger with nothing in it.
-pub(crate) fn run_sum(alloc: Global, sum: Sum, call: Call) -> Result<Ran, Memory>
-    ensures { IfOk result (λ ran. ran ≡ run_of (program_of sum) call no_entries) }
+/// Runs a saved call on the programs of a source.
+pub(crate) fn run_sum(alloc: Global, sum: Sum, saved: Saved) -> Result<Ran, Memory>
+    requires left { sum.left < 2 ^ 64 }
+    requires right { sum.right < 2 ^ 64 }
+    ensures { IfOk result (λ ran. ran ≡ run_of (picked saved.call.on_completion (program_of sum) clear_program) saved.call saved.ledger) }
 {
-    let Sum {
-        left: _left,
-        operator: _,
-        right: _right,
-    } = sum;
-    let code = built(alloc, sum)?;
+    let Saved {
+        contract: _contract,
+        call,
+        ledger,
+    } = saved;
+    let code = picked_code(alloc, sum, call.on_completion)?;
     let program = program_of_bytes(alloc, code.as_slice())?;
-    run(alloc, &program, &call, Ledger::empty(alloc))
+    run(alloc, &program, &call, ledger)
 }
 
-/// The program does what its source says.
+/// The approval program does what its source says.
 pub fn program_serves()
     ensures { (s : Sum) → s.left < 2 ^ 64 → s.right < 2 ^ 64 → Serves s (program_of s) }
+{}
+
+/// The clear state program does what its source says.
+pub fn clear_program_serves()
+    ensures { IsClear clear_program }
 {}
