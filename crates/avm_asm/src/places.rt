@@ -1,5 +1,5 @@
 ghost use Rattle.std.specs.Prelude.{◌≡◌, ℕ, ◌<◌, ◌^◌, [], IfSome};
-ghost use Rattle.avm_asm.specs.Assembled.{branches_to, first_missing};
+ghost use Rattle.avm_asm.specs.Assembled.{first_missing};
 ghost use Rattle.avm_asm.specs.Listing.{distance, place_in};
 ghost use Rattle.avm_asm.specs.Steps.{Adds};
 

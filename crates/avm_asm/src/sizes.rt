@@ -1,4 +1,4 @@
-ghost use Rattle.std.specs.Prelude.{◌≡◌, ℕ, ◌+◌, ◌*◌, ◌≤◌, length};
+ghost use Rattle.std.specs.Prelude.{◌≡◌, ◌+◌, ◌*◌, ◌≤◌, length};
 ghost use Rattle.avm_ops.specs.Code.{instr_bytes};
 ghost use Rattle.avm_ops.specs.Immediate.{imm_bytes, sized_bytes};
 ghost use Rattle.avm_ops.specs.Varint.{number_bytes, spelled};
