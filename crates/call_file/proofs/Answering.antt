@@ -29,6 +29,7 @@ field_holds {A} claim name form d h = by_value (get name d)
     by_form : (o : Option A) → Gives claim o → Holds claim (formed name o)
     by_form None g = tt
     by_form (Some a) g = g
+
     by_value : (o : Option Data) → Holds claim (judged name form o)
     by_value None = tt
     by_value (Some x) = by_form (form x) (h x)
@@ -85,6 +86,7 @@ each_gives {A} claim reads h (d ∷ ds) = by_first (reads d) (h d) (each reads d
     by_rest : (a : A) → claim a → (o : Option (List A)) → Gives (AreAll claim (length ds)) o → Gives (AreAll claim (length (d ∷ ds))) (before o a)
     by_rest a g None m = tt
     by_rest a g (Some list) m = let same = m.count in record { count = omega arith; all = all_cons claim a list g m.all }
+
     by_first : (o : Option A) → Gives claim o → (rest : Option (List A)) → Gives (AreAll claim (length ds)) rest → Gives (AreAll claim (length (d ∷ ds))) (option_and_then (before rest) o)
     by_first None g rest m = tt
     by_first (Some a) g rest m = by_rest a g rest m
@@ -100,9 +102,11 @@ list_gives {A} claim most reads h d = by_items (option_map list_of (as_array d))
     few : (ds : List Data) → nat_le (length ds) most ≡ true → (o : Option (List A)) → Gives (AreAll claim (length ds)) o → Gives (AreFew claim most) o
     few ds t None g = tt
     few ds t (Some list) g = let size = leb-true (length ds) most t in let same = g.count in record { few = omega arith; all = g.all }
+
     by_test : (ds : List Data) (b : Bool) → nat_le (length ds) most ≡ b → Gives (AreFew claim most) (option_and_then (each reads) (cond b (Some ds) None))
     by_test ds true t = few ds t (each reads ds) (each_gives claim reads h ds)
     by_test ds false t = tt
+
     by_items : (o : Option (List Data)) → Gives (AreFew claim most) (option_and_then (each reads) (kept (λ ds. nat_le (length ds) most) o))
     by_items None = tt
     by_items (Some ds) = by_test ds (nat_le (length ds) most) refl

@@ -33,6 +33,7 @@ outside_read low high text out = by_bytes (hex_bytes text) refl
   where
     over : (b : List ℕ) → length b ≡ length text / 2 → within_bytes low high b ≡ false
     over b s = elim out [ inl h ↦ grind (arith, nat_tests) | inr h ↦ grind (arith, nat_tests) ]
+
     by_bytes : (o : Option (List ℕ)) → hex_bytes text ≡ o → kept (within_bytes low high) (hex_bytes text) ≡ None
     by_bytes None e = ap (kept (within_bytes low high)) e
     by_bytes (Some b) e = kept_of (within_bytes low high) (hex_bytes text) b false e (over b (size text b e))

@@ -35,6 +35,7 @@ loaded_starts {E} kind keyed keeps most l s d = by_entries (list_within most kin
     by_test : (b : Bool) (es : List E) → Gives IsStarting (cond b (Some (put_all kind.put l es)) None) → Gives IsStarting (option_map (put_all kind.put l) (cond b (Some es) None))
     by_test true es g = g
     by_test false es g = tt
+
     by_entries : (o : Option (List E)) → Gives IsStarting (option_map (put_all kind.put l) (kept (may_all_go kind l) o))
     by_entries None = tt
     by_entries (Some es) = by_test (may_all_go kind l es) es (subst (Gives IsStarting) (all_enter kind keyed l es) (entered_starts kind keeps l es s))
