@@ -1,1 +1,2 @@
 pub mod LawChain
+pub mod LawNumbers
