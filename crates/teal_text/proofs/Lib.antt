@@ -1,2 +1,3 @@
 pub mod LawChain
 pub mod LawNumbers
+pub mod LawLines
