@@ -5,7 +5,7 @@ use Rattle.std.specs.List.{flat_map, list_any, list_all}
 use Rattle.std.specs.Int.{w16}
 use Rattle.std.specs.Int.RustNames.{FitsSigned}
 use Rattle.std.proofs.lemmas.Bool.Decides.{nat_tests}
-use Rattle.std.proofs.lemmas.Bool.{eqb-true, eq-eqb, ne_eqb, lt-ltb, and_parts}
+use Rattle.std.proofs.lemmas.Bool.{eqb-true, eqb-false, eq-eqb, ne_eqb, lt-ltb, and_parts}
 use Rattle.std.proofs.lemmas.Int.{ints}
 use Rattle.std.proofs.lemmas.List.{append-nil, map-append, length-map}
 use Rattle.std.proofs.lemmas.List.Concat.{flat_map-append}
@@ -21,6 +21,7 @@ use Rattle.avm_ops.specs.Code.{HasForm, HasFormOf, instr_bytes}
 use Rattle.avm_run.specs.Bytes.{offsets_of, place, target, targets_of}
 use Rattle.avm_asm.specs.declared.line.Line.{Line}
 use Rattle.avm_asm.specs.declared.line.Line.TheVariants as line
+use Rattle.avm_asm.specs.declared.line.AsmFault.{AsmFault}
 use Rattle.avm_asm.specs.Listing.{jump_opcode, table_opcode, line_size, named_by, symbol_at, symbols, place_in, distance, distance_to, instr_in, bytes_of, bytes_from}
 use Rattle.avm_asm.specs.Assembled.{assembled, branches, code_unless_twice, code_unless_missing, code_unless_far, far, first_again, is_near, missing, symbols_of, twice}
 use Rattle.teal_line.specs.declared.statement.Statement.{Statement}
@@ -283,3 +284,125 @@ each_near f ts known at end (p ∷ ps) h g =
     (sym (branches_label f known (is_in ts p.pc) p.pc at (l ∷ ls)
     ∙ ap (λ (n : ℕ). map (λ k. (k, distance known n k)) (named_by l) ++ branches known n ls) (ends_at f at p h.0)))
     (each_append IsNear (map pair (named_by l)) (branches known p.next ls) here (each_near f ts known p.next end ps h.1 g.1))
+
+-- ---- the place of each label
+
+-- different places up to the end have different numbers
+pub record IsApart (f : List ℕ → ℕ) (ts : List ℕ) (end : ℕ) : Type 0 where
+  pub apart : (t u : ℕ) → t ≤ end → u ≤ end → is_in ts t ≡ true → f (label_name t) ≡ f (label_name u) → t ≡ u
+
+link_rises : (at : ℕ) (p : Placed) → IsLink at p → p.pc < p.next
+link_rises at p h = omega (arith, h.long, h.here)
+
+pub chain_rises : (at end : ℕ) (ps : List Placed) → IsChain at end ps → at ≤ end
+chain_rises at end [] h = omega arith
+chain_rises at end (p ∷ ps) h = let more = chain_rises p.next end ps h.1 in let up = link_rises at p h.0 in omega (arith, more, up, h.0.here)
+
+found_first : (f : List ℕ → ℕ) (ts : List ℕ) (t : ℕ) (rest : List (ℕ × ℕ)) → is_in ts t ≡ true → place_in (mark f ts t ++ rest) (f (label_name t)) ≡ Some t
+found_first f ts t rest h = by (is_in ts t) h
+ where
+  by : (b : Bool) → b ≡ true → place_in ((if b then (f (label_name t), t) ∷ [] else []) ++ rest) (f (label_name t)) ≡ Some t
+  by true is = rw (eq-eqb (f (label_name t)) (f (label_name t)) refl) refl
+  by false is = absurd cc
+
+passed_by : (f : List ℕ → ℕ) (ts : List ℕ) (end t u : ℕ) (rest : List (ℕ × ℕ)) → IsApart f ts end → t ≤ end → u ≤ end → is_in ts t ≡ true → (u ≡ t → ⊥)
+    → place_in (mark f ts u ++ rest) (f (label_name t)) ≡ place_in rest (f (label_name t))
+passed_by f ts end t u rest a low high h other = by (is_in ts u)
+ where
+  by : (b : Bool) → place_in ((if b then (f (label_name u), u) ∷ [] else []) ++ rest) (f (label_name t)) ≡ place_in rest (f (label_name t))
+  by true = rw (ne_eqb (f (label_name u)) (f (label_name t)) (λ e. other (sym (a.apart t u low high h (sym e))))) refl
+  by false = refl
+
+pub place_of : (f : List ℕ → ℕ) (ts : List ℕ) (at end t : ℕ) (ps : List Placed) → IsApart f ts end → IsChain at end ps → t ≤ end → is_in ts t ≡ true → stands_in (map place_at ps) end t ≡ true
+    → place_in (marks f ts end ps) (f (label_name t)) ≡ Some t
+place_of f ts at end t [] a h low listed stands =
+    let last : t ≡ end = eqb-true t end stands in
+    ap (λ (n : ℕ). place_in (mark f ts n) (f (label_name t))) (sym last)
+    ∙ ap (λ (xs : List (ℕ × ℕ)). place_in xs (f (label_name t))) (sym (append-nil (mark f ts t)))
+    ∙ found_first f ts t [] listed
+place_of f ts at end t (p ∷ ps) a h low listed stands = by (p.pc == t) refl (place_of f ts p.next end t ps a h.1 low listed)
+ where
+  by : (b : Bool) → (p.pc == t) ≡ b → (stands_in (map place_at ps) end t ≡ true → place_in (marks f ts end ps) (f (label_name t)) ≡ Some t)
+      → place_in (mark f ts p.pc ++ marks f ts end ps) (f (label_name t)) ≡ Some t
+  by true is ih =
+      let same : p.pc ≡ t = eqb-true p.pc t is in
+      ap (λ (n : ℕ). place_in (mark f ts n ++ marks f ts end ps) (f (label_name t))) same ∙ found_first f ts t (marks f ts end ps) listed
+  by false is ih =
+      let rest : stands_in (map place_at ps) end t ≡ true = rw is at stands in
+      let more = chain_rises p.next end ps h.1 in
+      let up = link_rises at p h.0 in
+      passed_by f ts end t p.pc (marks f ts end ps) a low (omega (arith, more, up)) listed (λ e. eqb-false p.pc t is e) ∙ ih rest
+
+abbrev Clean : (List ℕ → ℕ) → List ℕ → ℕ → ℕ → List ℕ → Type 0
+Clean f ts at end seen = (t : ℕ) → at ≤ t → t ≤ end → is_in ts t ≡ true → list_any (λ k. k == f (label_name t)) seen ≡ false
+
+clean_more : (f : List ℕ → ℕ) (ts : List ℕ) (at next end : ℕ) (seen : List ℕ) → IsApart f ts end → at < next → at ≤ end → is_in ts at ≡ true → Clean f ts at end seen → Clean f ts next end (f (label_name at) ∷ seen)
+clean_more f ts at next end seen a low high listed clean t l h is =
+    let other : (f (label_name at) == f (label_name t)) ≡ false = ne_eqb (f (label_name at)) (f (label_name t)) (λ e. absurd (omega (arith, a.apart at t high h listed e))) in
+    let rest = clean t (omega arith) h is in
+    rw (other, rest) refl
+
+again_by : (f : List ℕ → ℕ) (ts : List ℕ) (at next end : ℕ) (seen : List ℕ) (rest : List (ℕ × ℕ)) (b : Bool) → is_in ts at ≡ b → IsApart f ts end → at < next → at ≤ end → Clean f ts at end seen
+    → ((more : List ℕ) → Clean f ts next end more → first_again more rest ≡ None) → first_again seen ((if b then (f (label_name at), at) ∷ [] else []) ++ rest) ≡ None
+again_by f ts at next end seen rest true is a low high clean ih =
+    let first = clean at (omega arith) high is in
+    rw first (ih (f (label_name at) ∷ seen) (clean_more f ts at next end seen a low high is clean))
+again_by f ts at next end seen rest false is a low high clean ih = ih seen (λ t l h listed. clean t (omega arith) h listed)
+
+pub none_again : (f : List ℕ → ℕ) (ts : List ℕ) (at end : ℕ) (ps : List Placed) (seen : List ℕ) → IsApart f ts end → IsChain at end ps → Clean f ts at end seen → first_again seen (marks f ts end ps) ≡ None
+none_again f ts at end [] seen a h clean =
+    ap (first_again seen) (sym (append-nil (mark f ts end)))
+    ∙ again_by f ts end (suc end) end seen [] (is_in ts end) refl a (omega arith) (omega arith) (λ t l low listed. clean t (omega arith) low listed) (λ more c. refl)
+none_again f ts at end (p ∷ ps) seen a h clean =
+    let more = chain_rises p.next end ps h.1 in
+    let up = link_rises at p h.0 in
+    again_by f ts p.pc p.next end seen (marks f ts end ps) (is_in ts p.pc) refl a up (omega (arith, more, up))
+    (λ t l low listed. clean t (omega (arith, l, h.0.here)) low listed) (λ xs c. none_again f ts p.next end ps xs a h.1 c)
+
+-- ---- the code
+
+each_low : (at end : ℕ) (ps : List Placed) → IsChain at end ps → Each (λ (s : ℕ). s ≤ end) (map place_at ps)
+each_low at end [] h = tt
+each_low at end (p ∷ ps) h =
+    let more = chain_rises p.next end ps h.1 in
+    let up = link_rises at p h.0 in
+    (omega (arith, more, up), each_low p.next end ps h.1)
+
+low_of : (starts : List ℕ) (end t : ℕ) → Each (λ (s : ℕ). s ≤ end) starts → stands_in starts end t ≡ true → t ≤ end
+low_of [] end t h e = omega (arith, eqb-true t end e)
+low_of (s ∷ ss) end t h e = by (s == t) refl (low_of ss end t h.1)
+ where
+  by : (b : Bool) → (s == t) ≡ b → (stands_in ss end t ≡ true → t ≤ end) → t ≤ end
+  by true is ih = omega (arith, eqb-true s t is, h.0)
+  by false is ih = let rest : stands_in ss end t ≡ true = rw is at e in ih rest
+
+set_of : (f : List ℕ → ℕ) (ts : List ℕ) (at end : ℕ) (ps : List Placed) (p : Placed) → IsApart f ts end → IsChain at end ps → IsGood ts (map place_at ps) end p → IsSet f (marks f ts end ps) p
+set_of f ts at end ps p a h g = record {
+  form = g.form;
+  met = each_weaker (Reaches ts (map place_at ps) end p.next) (IsMet f (marks f ts end ps) p.next)
+    (λ j r. met_of f (marks f ts end ps) p.next j r.spot
+    (place_of f ts at end (place (target p.next j)) ps a h (low_of (map place_at ps) end (place (target p.next j)) (each_low at end ps h) r.stands) r.listed r.stands)
+    r.near) (offsets_of p.instr.imm) g.reaches;
+}
+
+-- the lines of instructions become their bytes again
+pub assembled_lines : (f : List ℕ → ℕ) (ts : List ℕ) (end : ℕ) (ps : List Placed) → IsApart f ts end → IsChain 1 end ps → Each (IsGood ts (map place_at ps) end) ps
+    → assembled (lines_by f ts end ps) ≡ Ok (10 ∷ flat_map bytes_at ps)
+unfolding assembled
+assembled_lines f ts end ps a h good =
+    let ls = lines_by f ts end ps in
+    let known = marks f ts end ps in
+    let table_is = symbols_are f ts 1 end ps h in
+    let set = each_weaker (IsGood ts (map place_at ps) end) (IsSet f known) (λ p g. set_of f ts 1 end ps p a h g) ps good in
+    let once : twice ls ≡ None = ap (first_again []) table_is ∙ none_again f ts 1 end ps [] a h (λ t l low listed. refl) in
+    let there : missing ls ≡ None =
+    ap (λ (xs : List (ℕ × ℕ)). find (λ k. is_none (place_in xs k)) (flat_map named_by ls)) table_is
+    ∙ none_found (λ k. is_none (place_in known k)) (flat_map named_by ls) (each_found f ts known end ps set) in
+    let near : far ls ≡ None =
+    ap (λ (xs : List (ℕ × ℕ)). find (λ (b : ℕ × ℤ). not (is_near b.1)) (branches xs 1 ls)) table_is
+    ∙ none_found (λ (b : ℕ × ℤ). not (is_near b.1)) (branches known 1 ls) (each_near f ts known 1 end ps h set) in
+    ap (code_unless_twice ls) once
+    ∙ ap (code_unless_missing ls) there
+    ∙ ap (code_unless_far ls) near
+    ∙ ap (λ (xs : List (ℕ × ℕ)). let r : Result (List ℕ) AsmFault = Ok (10 ∷ bytes_from xs 1 ls) in r) table_is
+    ∙ ap (λ (bs : List ℕ). let r : Result (List ℕ) AsmFault = Ok (10 ∷ bs) in r) (bytes_are f ts known 1 end ps h set)
