@@ -47,7 +47,7 @@ lines_are f ts end (p ∷ ps) =
     ∙ map-append (line_of f) (label_at ts p.pc) (statement_of p ∷ (rest ++ label_at ts end))
     ∙ ap (λ (ls : List Line). map (line_of f) (label_at ts p.pc) ++ (line_of f (statement_of p) ∷ ls)) (lines_are f ts end ps)
 
-abbrev placed_so : ℕ → ℕ → ℕ → Imm → Placed
+abbrev pub placed_so : ℕ → ℕ → ℕ → Imm → Placed
 placed_so pc op next i = record { pc = pc; instr = record { op = op; imm = i }; next = next }
 
 -- ---- one line
@@ -361,14 +361,14 @@ none_again f ts at end (p ∷ ps) seen a h clean =
 
 -- ---- the code
 
-each_low : (at end : ℕ) (ps : List Placed) → IsChain at end ps → Each (λ (s : ℕ). s ≤ end) (map place_at ps)
+pub each_low : (at end : ℕ) (ps : List Placed) → IsChain at end ps → Each (λ (s : ℕ). s ≤ end) (map place_at ps)
 each_low at end [] h = tt
 each_low at end (p ∷ ps) h =
     let more = chain_rises p.next end ps h.1 in
     let up = link_rises at p h.0 in
     (omega (arith, more, up), each_low p.next end ps h.1)
 
-low_of : (starts : List ℕ) (end t : ℕ) → Each (λ (s : ℕ). s ≤ end) starts → stands_in starts end t ≡ true → t ≤ end
+pub low_of : (starts : List ℕ) (end t : ℕ) → Each (λ (s : ℕ). s ≤ end) starts → stands_in starts end t ≡ true → t ≤ end
 low_of [] end t h e = omega (arith, eqb-true t end e)
 low_of (s ∷ ss) end t h e = by (s == t) refl (low_of ss end t h.1)
  where
