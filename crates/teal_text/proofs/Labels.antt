@@ -1,10 +1,9 @@
 -- The law of labels: each printed statement can be read back, and the statements with their labels by number are assembled to the program.
-use Rattle.std.proofs.Common.{◌≡◌, ℕ, ℤ, zero, suc, ◌+◌, ◌%◌, ◌^◌, ◌<◌, ◌≤◌, List, [], ◌∷◌, ◌++◌, length, map, Bool, true, false, Some, None, Option, Result, Ok, refl, arith, ap, sym, subst, ◌∙◌, IsTrue, All}
-use Rattle.std.specs.Prelude.{◌==◌, ◌&&◌, ◌||◌, if◌then◌else◌, nat_le}
-use Rattle.std.specs.List.{flat_map, list_all, list_any}
+use Rattle.std.proofs.Common.{◌≡◌, ℕ, ℤ, ◌+◌, ◌%◌, ◌^◌, ◌<◌, ◌≤◌, List, [], ◌∷◌, ◌++◌, length, map, Bool, true, false, Some, None, Option, Result, Ok, refl, arith, ap, sym, subst, ◌∙◌, IsTrue, All}
+use Rattle.std.specs.Prelude.{◌==◌, ◌&&◌, if◌then◌else◌, nat_le}
+use Rattle.std.specs.List.{flat_map, list_all}
 use Rattle.std.specs.Fmt.{decimal}
 use Rattle.std.proofs.lemmas.Fmt.{decimal_by_steps, decimal_injective}
-use Rattle.std.proofs.lemmas.Bool.Decides.{nat_tests}
 use Rattle.std.proofs.lemmas.Bool.{and_from, eqb-true, le-leb}
 use Rattle.std.proofs.lemmas.List.{append_cancel_left, length-map}
 use Rattle.std.proofs.lemmas.List.Folds.{list_all-append}
@@ -12,7 +11,6 @@ use Rattle.std.proofs.lemmas.List.Elements.{All-nil, All-cons}
 use Rattle.avm_ops.specs.declared.rows.Row.{Row}
 use Rattle.avm_ops.specs.declared.rows.Format.{Format}
 use Rattle.avm_ops.specs.declared.rows.Format.TheVariants as format
-use Rattle.avm_ops.specs.declared.instr.Instr.{Instr}
 use Rattle.avm_ops.specs.declared.instr.Imm.{Imm}
 use Rattle.avm_ops.specs.declared.instr.Imm.TheVariants as imm
 use Rattle.avm_ops.specs.Table.{row_of}
@@ -23,14 +21,14 @@ use Rattle.avm_run.specs.Form.{IsWellFormed}
 use Rattle.avm_asm.specs.declared.line.AsmFault.{AsmFault}
 use Rattle.avm_asm.specs.Assembled.{assembled}
 use Rattle.teal_line.specs.declared.statement.Statement.{Statement}
-use Rattle.teal_line.specs.declared.statement.Statement.TheVariants.{Op, Label, Jump, Table}
+use Rattle.teal_line.specs.declared.statement.Statement.TheVariants.{Label}
 use Rattle.teal_line.specs.Operands.{is_digit, is_label_byte, is_some_label}
 use Rattle.teal_line.specs.Printing.{IsStatement}
 use Rattle.teal_text.specs.Numbering.{names_of, number_of, numbered}
-use Rattle.teal_text.specs.Printing.{Placed, instructions, label_at, label_name, places_of, statement_of, statements_by, statements_of, targets}
-use Rattle.teal_text.proofs.LawChain.{Each, IsChain, each_both, each_append, each_back, each_flat_map, each_front, each_map, each_of_flat_map, each_of_map, each_weaker, IsGood, IsSound, Reaches, bytes_at, each_good, is_in, place_at, sound, stands_in}
-use Rattle.teal_text.proofs.LawNumbers.{Names, all_known, knows, line_of, names_in, numbered_is, numbers_apart}
-use Rattle.teal_text.proofs.LawLines.{IsApart, assembled_lines, each_low, lines_are, lines_by, low_of, placed_so}
+use Rattle.teal_text.specs.Printing.{Placed, instructions, label_at, label_name, places_of, statement_of, statements_of, targets}
+use Rattle.teal_text.proofs.LawChain.{Each, IsChain, each_both, each_append, each_back, each_flat_map, each_front, each_map, each_of_flat_map, each_of_map, each_weaker, IsGood, Reaches, each_good, is_in, place_at, sound}
+use Rattle.teal_text.proofs.LawNumbers.{Names, all_known, knows, names_in, numbered_is, numbers_apart}
+use Rattle.teal_text.proofs.LawLines.{IsApart, assembled_lines, each_low, lines_are, low_of, placed_so}
 
 -- ---- label names
 
@@ -75,17 +73,18 @@ IsLabel name = IsTrue (is_some_label name)
 statement_is : (pc next op : ℕ) (i : Imm) → HasForm (record { op = op; imm = i }) → Each (λ j. IsShort (place (target next j))) (offsets_of i) → IsStatement (statement_of (placed_so pc op next i))
 statement_is pc next op (imm.Jump j) form h = label_is (place (target next j)) h.0
 statement_is pc next op (imm.Jumps js) form h =
-    let name : ℤ → List ℕ = λ j. label_name (place (target next j)) in
-    (each_to_all IsLabel (map name js) (each_map IsLabel name js (each_weaker (λ j. IsShort (place (target next j))) (λ j. IsLabel (name j)) (λ j low. label_is (place (target next j)) low) js h)),
-    omega (arith, length-map js name, few_by (row_of op) js form))
+    let name : ℤ → List ℕ = λ j. label_name (place (target next j)) in (
+      each_to_all IsLabel (map name js) (each_map IsLabel name js (each_weaker (λ j. IsShort (place (target next j))) (λ j. IsLabel (name j)) (λ j low. label_is (place (target next j)) low) js h)),
+      omega (arith, length-map js name, few_by (row_of op) js form),
+    )
 statement_is pc next op i form h = (form, tt)
 
 label_holds : (ts : List ℕ) (t : ℕ) → IsShort t → Each IsStatement (label_at ts t)
 label_holds ts t h = by (is_in ts t)
- where
-  by : (b : Bool) → Each IsStatement (if b then Label (label_name t) ∷ [] else [])
-  by true = (label_is t h, tt)
-  by false = tt
+  where
+    by : (b : Bool) → Each IsStatement (if b then Label (label_name t) ∷ [] else [])
+    by true = (label_is t h, tt)
+    by false = tt
 
 statement_holds : (ts : List ℕ) (at end : ℕ) (ps : List Placed) → IsShort end → IsChain at end ps → (p : Placed) → IsGood ts (map place_at ps) end p → p.pc ≤ end → Each IsStatement (label_at ts p.pc ++ statement_of p ∷ [])
 statement_holds ts at end ps short h p good low =
@@ -115,10 +114,10 @@ statements_hold code h w short =
 names_by : (pc next op : ℕ) (i : Imm) → names_of (statement_of (placed_so pc op next i)) ≡ map label_name (places_of (placed_so pc op next i))
 names_by pc next op (imm.Jump j) = refl
 names_by pc next op (imm.Jumps js) = thrice js
- where
-  thrice : (js : List ℤ) → map (λ j. label_name (place (target next j))) js ≡ map label_name (map place (map (target next) js))
-  thrice [] = refl
-  thrice (j ∷ js) = ap (λ (xs : Names). label_name (place (target next j)) ∷ xs) (thrice js)
+  where
+    thrice : (js : List ℤ) → map (λ j. label_name (place (target next j))) js ≡ map label_name (map place (map (target next) js))
+    thrice [] = refl
+    thrice (j ∷ js) = ap (λ (xs : Names). label_name (place (target next j)) ∷ xs) (thrice js)
 names_by pc next op i = refl
 
 names_are : (p : Placed) → names_of (statement_of p) ≡ map label_name (places_of p)
@@ -127,10 +126,10 @@ names_are p = names_by p.pc p.next p.instr.op p.instr.imm
 in_each : (P : ℕ → Type 0) (ts : List ℕ) (t : ℕ) → Each P ts → is_in ts t ≡ true → P t
 in_each P [] t h e = absurd cc
 in_each P (u ∷ ts) t h e = by (u == t) refl (in_each P ts t h.1)
- where
-  by : (b : Bool) → (u == t) ≡ b → (is_in ts t ≡ true → P t) → P t
-  by true is ih = subst P (eqb-true u t is) h.0
-  by false is ih = let rest : is_in ts t ≡ true = rw is at e in ih rest
+  where
+    by : (b : Bool) → (u == t) ≡ b → (is_in ts t ≡ true → P t) → P t
+    by true is ih = subst P (eqb-true u t is) h.0
+    by false is ih = let rest : is_in ts t ≡ true = rw is at e in ih rest
 
 abbrev all_names : List ℕ → Names
 all_names code = names_in [] (statements_of code)

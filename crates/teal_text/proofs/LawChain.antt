@@ -1,5 +1,5 @@
 -- The instructions of a well-formed program: one behind another up to its end, each spelled at its place, and each branch to the start of one or to the end.
-use Rattle.std.proofs.Common.{◌≡◌, ℕ, ℤ, pos, negsuc, zero, suc, ◌+◌, ◌-◌, ◌<◌, ◌≤◌, List, [], ◌∷◌, ◌++◌, length, take, drop, map, All, Bool, true, false, Some, None, Option, Result, Ok, Err, refl, arith, ap, sym, subst, ◌∙◌, length-append, length-drop, append_assoc}
+use Rattle.std.proofs.Common.{◌≡◌, ℕ, ℤ, pos, negsuc, zero, suc, ◌+◌, ◌-◌, ◌<◌, ◌≤◌, List, [], ◌∷◌, ◌++◌, length, drop, map, All, Bool, true, false, Some, None, Option, Result, Ok, Err, refl, arith, ap, sym, ◌∙◌, length-append, length-drop}
 use Rattle.std.specs.Prelude.{◌==◌, ◌||◌, if◌then◌else◌, nat_eq, find, not}
 use Rattle.std.specs.List.{flat_map, list_any}
 use Rattle.std.proofs.lemmas.Bool.Decides.{nat_tests}
@@ -57,10 +57,10 @@ module _ {A : Type 0} where
   pub each_fails : (f : A → Bool) (xs : List A) → find f xs ≡ None → Each (λ x. f x ≡ false) xs
   each_fails f [] e = tt
   each_fails f (x ∷ xs) e = fails_by f x xs (f x) refl e (each_fails f xs)
-   where
-    fails_by : (f : A → Bool) (x : A) (xs : List A) (b : Bool) → f x ≡ b → (if b then Some x else find f xs) ≡ None → (find f xs ≡ None → Each (λ x. f x ≡ false) xs) → (f x ≡ false) × Each (λ x. f x ≡ false) xs
-    fails_by f x xs true is e ih = absurd cc
-    fails_by f x xs false is e ih = (is, ih e)
+    where
+      fails_by : (f : A → Bool) (x : A) (xs : List A) (b : Bool) → f x ≡ b → (if b then Some x else find f xs) ≡ None → (find f xs ≡ None → Each (λ x. f x ≡ false) xs) → (f x ≡ false) × Each (λ x. f x ≡ false) xs
+      fails_by f x xs true is e ih = absurd cc
+      fails_by f x xs false is e ih = (is, ih e)
 
   pub none_found : (f : A → Bool) (xs : List A) → Each (λ x. f x ≡ false) xs → find f xs ≡ None
   none_found f [] p = refl
@@ -235,9 +235,10 @@ pub record IsGood (ts starts : List ℕ) (end : ℕ) (p : Placed) : Type 0 where
 
 each_here : (ts : List ℕ) → Each (λ t. is_in ts t ≡ true) ts
 each_here [] = tt
-each_here (t ∷ ts) =
-    (or_left (t == t) (is_in ts t) (eq-eqb t t refl),
-    each_weaker (λ u. is_in ts u ≡ true) (λ u. is_in (t ∷ ts) u ≡ true) (λ u h. or_right (t == u) (is_in ts u) h) ts (each_here ts))
+each_here (t ∷ ts) = (
+  or_left (t == t) (is_in ts t) (eq-eqb t t refl),
+  each_weaker (λ u. is_in ts u ≡ true) (λ u. is_in (t ∷ ts) u ≡ true) (λ u h. or_right (t == u) (is_in ts u) h) ts (each_here ts),
+)
 
 each_of_all : {A : Type 0} (P : A → Type 0) (xs : List A) → All P xs → Each P xs
 each_of_all P [] h = tt
@@ -287,7 +288,7 @@ good_of ts starts end p h =
     record {
       form = h.1;
       reaches = each_weaker (λ j. (Known j × Listed j) × IsSigned16 j) (Reaches ts starts end p.next) (reaches_of ts starts end p.next) js
-      (each_both (λ j. Known j × Listed j) IsSigned16 js (each_both Known Listed js one two) three);
+          (each_both (λ j. Known j × Listed j) IsSigned16 js (each_both Known Listed js one two) three);
     }
 
 -- each instruction of a well-formed program is so

@@ -1,14 +1,10 @@
 -- The lines of a printed program: their sizes, their symbol table, and the code that they become.
-use Rattle.std.proofs.Common.{◌≡◌, ℕ, ℤ, pos, negsuc, zero, suc, ◌+◌, ◌*◌, ◌-◌, ◌^◌, ◌<◌, ◌≤◌, List, [], ◌∷◌, ◌++◌, length, map, Bool, true, false, Some, None, Option, Result, Ok, Err, refl, arith, ap, sym, subst, ◌∙◌, append_assoc, length-append}
-use Rattle.std.specs.Prelude.{◌==◌, ◌||◌, ◌&&◌, ◌+ℤ◌, ◌-ℤ◌, if◌then◌else◌, nat_eq, nat_lt, find, not, is_none}
+use Rattle.std.proofs.Common.{◌≡◌, ℕ, ℤ, pos, negsuc, suc, ◌+◌, ◌*◌, ◌^◌, ◌<◌, ◌≤◌, List, [], ◌∷◌, ◌++◌, length, map, Bool, true, false, Some, None, Option, Result, Ok, refl, arith, ap, sym, subst, ◌∙◌, append_assoc, length-append}
+use Rattle.std.specs.Prelude.{◌==◌, ◌+ℤ◌, ◌-ℤ◌, if◌then◌else◌, find, not, is_none}
 use Rattle.std.specs.List.{flat_map, list_any, list_all}
-use Rattle.std.specs.Int.{w16}
-use Rattle.std.specs.Int.RustNames.{FitsSigned}
-use Rattle.std.proofs.lemmas.Bool.Decides.{nat_tests}
 use Rattle.std.proofs.lemmas.Bool.{eqb-true, eqb-false, eq-eqb, ne_eqb, lt-ltb, and_parts}
 use Rattle.std.proofs.lemmas.Int.{ints}
 use Rattle.std.proofs.lemmas.List.{append-nil, map-append, length-map}
-use Rattle.std.proofs.lemmas.List.Concat.{flat_map-append}
 use Rattle.avm_ops.specs.declared.rows.Row.{Row}
 use Rattle.avm_ops.specs.declared.rows.Format.{Format}
 use Rattle.avm_ops.specs.declared.rows.Format.TheVariants as format
@@ -18,16 +14,14 @@ use Rattle.avm_ops.specs.declared.instr.Imm.TheVariants as imm
 use Rattle.avm_ops.specs.Table.{row_of, row_in, table}
 use Rattle.avm_ops.specs.Immediate.{IsOf, IsSigned16, jump_bytes}
 use Rattle.avm_ops.specs.Code.{HasForm, HasFormOf, instr_bytes}
-use Rattle.avm_run.specs.Bytes.{offsets_of, place, target, targets_of}
+use Rattle.avm_run.specs.Bytes.{offsets_of, place, target}
 use Rattle.avm_asm.specs.declared.line.Line.{Line}
-use Rattle.avm_asm.specs.declared.line.Line.TheVariants as line
 use Rattle.avm_asm.specs.declared.line.AsmFault.{AsmFault}
 use Rattle.avm_asm.specs.Listing.{jump_opcode, table_opcode, line_size, named_by, symbol_at, symbols, place_in, distance, distance_to, instr_in, bytes_of, bytes_from}
-use Rattle.avm_asm.specs.Assembled.{assembled, branches, code_unless_twice, code_unless_missing, code_unless_far, far, first_again, is_near, missing, symbols_of, twice}
-use Rattle.teal_line.specs.declared.statement.Statement.{Statement}
-use Rattle.teal_line.specs.declared.statement.Statement.TheVariants.{Op, Label, Jump, Table}
+use Rattle.avm_asm.specs.Assembled.{assembled, branches, code_unless_twice, code_unless_missing, code_unless_far, far, first_again, is_near, missing, twice}
+use Rattle.teal_line.specs.declared.statement.Statement.TheVariants.{Label}
 use Rattle.teal_line.specs.Reading.{jump_kind, table_kind}
-use Rattle.teal_text.specs.Printing.{Placed, places_of, label_name, label_at, statement_by, statement_of, statements_by}
+use Rattle.teal_text.specs.Printing.{Placed, label_name, label_at, statement_of, statements_by}
 use Rattle.teal_text.proofs.LawChain.{Each, each_append, each_map, each_weaker, none_found, IsLink, IsChain, IsGood, Reaches, bytes_at, place_at, is_in, stands_in}
 use Rattle.teal_text.proofs.LawNumbers.{line_of}
 
@@ -104,14 +98,14 @@ right_table = refl
 right_in : (es : List (ℕ × Row)) (op : ℕ) (row : Row) → list_all (λ (e : ℕ × Row). right_by e.1.format e.0) es ≡ true → row_in es op ≡ Some row → right_by row.format op ≡ true
 right_in [] op row h is = absurd cc
 right_in (e ∷ es) op row h is = by (op == e.0) refl is (right_in es op row (and_parts (right_by e.1.format e.0) (list_all (λ (e : ℕ × Row). right_by e.1.format e.0) es) h).1)
- where
-  by : (b : Bool) → (op == e.0) ≡ b → (if b then Some e.1 else row_in es op) ≡ Some row → (row_in es op ≡ Some row → right_by row.format op ≡ true) → right_by row.format op ≡ true
-  by false at is ih = ih is
-  by true at is ih =
-      let same : e.1 ≡ row = cc in
-      let there : op ≡ e.0 = eqb-true op e.0 at in
-      let first : right_by e.1.format e.0 ≡ true = (and_parts (right_by e.1.format e.0) (list_all (λ (e : ℕ × Row). right_by e.1.format e.0) es) h).0 in
-      ap (λ (r : Row). right_by r.format op) (sym same) ∙ ap (right_by e.1.format) there ∙ first
+  where
+    by : (b : Bool) → (op == e.0) ≡ b → (if b then Some e.1 else row_in es op) ≡ Some row → (row_in es op ≡ Some row → right_by row.format op ≡ true) → right_by row.format op ≡ true
+    by false at is ih = ih is
+    by true at is ih =
+        let same : e.1 ≡ row = cc in
+        let there : op ≡ e.0 = eqb-true op e.0 at in
+        let first : right_by e.1.format e.0 ≡ true = (and_parts (right_by e.1.format e.0) (list_all (λ (e : ℕ × Row). right_by e.1.format e.0) es) h).0 in
+        ap (λ (r : Row). right_by r.format op) (sym same) ∙ ap (right_by e.1.format) there ∙ first
 
 right_of : (op : ℕ) (row : Row) → row_of op ≡ Some row → right_by row.format op ≡ true
 unfolding row_of
@@ -300,18 +294,18 @@ chain_rises at end (p ∷ ps) h = let more = chain_rises p.next end ps h.1 in le
 
 found_first : (f : List ℕ → ℕ) (ts : List ℕ) (t : ℕ) (rest : List (ℕ × ℕ)) → is_in ts t ≡ true → place_in (mark f ts t ++ rest) (f (label_name t)) ≡ Some t
 found_first f ts t rest h = by (is_in ts t) h
- where
-  by : (b : Bool) → b ≡ true → place_in ((if b then (f (label_name t), t) ∷ [] else []) ++ rest) (f (label_name t)) ≡ Some t
-  by true is = rw (eq-eqb (f (label_name t)) (f (label_name t)) refl) refl
-  by false is = absurd cc
+  where
+    by : (b : Bool) → b ≡ true → place_in ((if b then (f (label_name t), t) ∷ [] else []) ++ rest) (f (label_name t)) ≡ Some t
+    by true is = rw (eq-eqb (f (label_name t)) (f (label_name t)) refl) refl
+    by false is = absurd cc
 
 passed_by : (f : List ℕ → ℕ) (ts : List ℕ) (end t u : ℕ) (rest : List (ℕ × ℕ)) → IsApart f ts end → t ≤ end → u ≤ end → is_in ts t ≡ true → (u ≡ t → ⊥)
     → place_in (mark f ts u ++ rest) (f (label_name t)) ≡ place_in rest (f (label_name t))
 passed_by f ts end t u rest a low high h other = by (is_in ts u)
- where
-  by : (b : Bool) → place_in ((if b then (f (label_name u), u) ∷ [] else []) ++ rest) (f (label_name t)) ≡ place_in rest (f (label_name t))
-  by true = rw (ne_eqb (f (label_name u)) (f (label_name t)) (λ e. other (sym (a.apart t u low high h (sym e))))) refl
-  by false = refl
+  where
+    by : (b : Bool) → place_in ((if b then (f (label_name u), u) ∷ [] else []) ++ rest) (f (label_name t)) ≡ place_in rest (f (label_name t))
+    by true = rw (ne_eqb (f (label_name u)) (f (label_name t)) (λ e. other (sym (a.apart t u low high h (sym e))))) refl
+    by false = refl
 
 pub place_of : (f : List ℕ → ℕ) (ts : List ℕ) (at end t : ℕ) (ps : List Placed) → IsApart f ts end → IsChain at end ps → t ≤ end → is_in ts t ≡ true → stands_in (map place_at ps) end t ≡ true
     → place_in (marks f ts end ps) (f (label_name t)) ≡ Some t
@@ -321,17 +315,17 @@ place_of f ts at end t [] a h low listed stands =
     ∙ ap (λ (xs : List (ℕ × ℕ)). place_in xs (f (label_name t))) (sym (append-nil (mark f ts t)))
     ∙ found_first f ts t [] listed
 place_of f ts at end t (p ∷ ps) a h low listed stands = by (p.pc == t) refl (place_of f ts p.next end t ps a h.1 low listed)
- where
-  by : (b : Bool) → (p.pc == t) ≡ b → (stands_in (map place_at ps) end t ≡ true → place_in (marks f ts end ps) (f (label_name t)) ≡ Some t)
-      → place_in (mark f ts p.pc ++ marks f ts end ps) (f (label_name t)) ≡ Some t
-  by true is ih =
-      let same : p.pc ≡ t = eqb-true p.pc t is in
-      ap (λ (n : ℕ). place_in (mark f ts n ++ marks f ts end ps) (f (label_name t))) same ∙ found_first f ts t (marks f ts end ps) listed
-  by false is ih =
-      let rest : stands_in (map place_at ps) end t ≡ true = rw is at stands in
-      let more = chain_rises p.next end ps h.1 in
-      let up = link_rises at p h.0 in
-      passed_by f ts end t p.pc (marks f ts end ps) a low (omega (arith, more, up)) listed (λ e. eqb-false p.pc t is e) ∙ ih rest
+  where
+    by : (b : Bool) → (p.pc == t) ≡ b → (stands_in (map place_at ps) end t ≡ true → place_in (marks f ts end ps) (f (label_name t)) ≡ Some t)
+        → place_in (mark f ts p.pc ++ marks f ts end ps) (f (label_name t)) ≡ Some t
+    by true is ih =
+        let same : p.pc ≡ t = eqb-true p.pc t is in
+        ap (λ (n : ℕ). place_in (mark f ts n ++ marks f ts end ps) (f (label_name t))) same ∙ found_first f ts t (marks f ts end ps) listed
+    by false is ih =
+        let rest : stands_in (map place_at ps) end t ≡ true = rw is at stands in
+        let more = chain_rises p.next end ps h.1 in
+        let up = link_rises at p h.0 in
+        passed_by f ts end t p.pc (marks f ts end ps) a low (omega (arith, more, up)) listed (λ e. eqb-false p.pc t is e) ∙ ih rest
 
 abbrev Clean : (List ℕ → ℕ) → List ℕ → ℕ → ℕ → List ℕ → Type 0
 Clean f ts at end seen = (t : ℕ) → at ≤ t → t ≤ end → is_in ts t ≡ true → list_any (λ k. k == f (label_name t)) seen ≡ false
@@ -371,18 +365,18 @@ each_low at end (p ∷ ps) h =
 pub low_of : (starts : List ℕ) (end t : ℕ) → Each (λ (s : ℕ). s ≤ end) starts → stands_in starts end t ≡ true → t ≤ end
 low_of [] end t h e = omega (arith, eqb-true t end e)
 low_of (s ∷ ss) end t h e = by (s == t) refl (low_of ss end t h.1)
- where
-  by : (b : Bool) → (s == t) ≡ b → (stands_in ss end t ≡ true → t ≤ end) → t ≤ end
-  by true is ih = omega (arith, eqb-true s t is, h.0)
-  by false is ih = let rest : stands_in ss end t ≡ true = rw is at e in ih rest
+  where
+    by : (b : Bool) → (s == t) ≡ b → (stands_in ss end t ≡ true → t ≤ end) → t ≤ end
+    by true is ih = omega (arith, eqb-true s t is, h.0)
+    by false is ih = let rest : stands_in ss end t ≡ true = rw is at e in ih rest
 
 set_of : (f : List ℕ → ℕ) (ts : List ℕ) (at end : ℕ) (ps : List Placed) (p : Placed) → IsApart f ts end → IsChain at end ps → IsGood ts (map place_at ps) end p → IsSet f (marks f ts end ps) p
 set_of f ts at end ps p a h g = record {
   form = g.form;
   met = each_weaker (Reaches ts (map place_at ps) end p.next) (IsMet f (marks f ts end ps) p.next)
-    (λ j r. met_of f (marks f ts end ps) p.next j r.spot
-    (place_of f ts at end (place (target p.next j)) ps a h (low_of (map place_at ps) end (place (target p.next j)) (each_low at end ps h) r.stands) r.listed r.stands)
-    r.near) (offsets_of p.instr.imm) g.reaches;
+      (λ j r. met_of f (marks f ts end ps) p.next j r.spot
+      (place_of f ts at end (place (target p.next j)) ps a h (low_of (map place_at ps) end (place (target p.next j)) (each_low at end ps h) r.stands) r.listed r.stands)
+      r.near) (offsets_of p.instr.imm) g.reaches;
 }
 
 -- the lines of instructions become their bytes again

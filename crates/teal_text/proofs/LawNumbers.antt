@@ -1,9 +1,9 @@
 -- Labels by number: in the end each name has one number, and different names have different ones.
-use Rattle.std.proofs.Common.{◌≡◌, ℕ, zero, suc, List, [], ◌∷◌, ◌++◌, map, length, Bool, true, false, refl, arith, ap, sym, subst, ◌∙◌}
-use Rattle.std.specs.Prelude.{bytes_eq, if◌then◌else◌, ◌||◌}
+use Rattle.std.proofs.Common.{◌≡◌, ℕ, zero, suc, List, [], ◌∷◌, ◌++◌, map, Bool, true, false, refl, arith, ap, sym, ◌∙◌}
+use Rattle.std.specs.Prelude.{bytes_eq, if◌then◌else◌}
 use Rattle.std.specs.List.{list_any}
 use Rattle.std.proofs.lemmas.Slice.Eq.{bytes_eq-Decides}
-use Rattle.std.proofs.lemmas.Bool.{or_left, or_right}
+use Rattle.std.proofs.lemmas.Bool.{or_right}
 use Rattle.avm_asm.specs.declared.line.Line.{Line}
 use Rattle.avm_asm.specs.declared.line.Line.TheVariants as line
 use Rattle.teal_line.specs.declared.statement.Statement.{Statement}
@@ -48,18 +48,18 @@ grows_then xs ys zs g h = record { kept = λ n k. h.kept n (g.seen n k) ∙ g.ke
 kept_push : (xs : Names) (m n : List ℕ) → knows xs n ≡ true → number_of (xs ++ m ∷ []) n ≡ number_of xs n
 kept_push [] m n h = absurd cc
 kept_push (x ∷ xs) m n h = by (bytes_eq x n) refl (kept_push xs m n)
- where
-  by : (b : Bool) → bytes_eq x n ≡ b → (knows xs n ≡ true → number_of (xs ++ m ∷ []) n ≡ number_of xs n) → number_of ((x ∷ xs) ++ m ∷ []) n ≡ number_of (x ∷ xs) n
-  by true is ih = rw is refl
-  by false is ih = let rest : knows xs n ≡ true = rw is at h in rw is (ap suc (ih rest))
+  where
+    by : (b : Bool) → bytes_eq x n ≡ b → (knows xs n ≡ true → number_of (xs ++ m ∷ []) n ≡ number_of xs n) → number_of ((x ∷ xs) ++ m ∷ []) n ≡ number_of (x ∷ xs) n
+    by true is ih = rw is refl
+    by false is ih = let rest : knows xs n ≡ true = rw is at h in rw is (ap suc (ih rest))
 
 seen_push : (xs : Names) (m n : List ℕ) → knows xs n ≡ true → knows (xs ++ m ∷ []) n ≡ true
 seen_push [] m n h = absurd cc
 seen_push (x ∷ xs) m n h = by (bytes_eq x n) refl (seen_push xs m n)
- where
-  by : (b : Bool) → bytes_eq x n ≡ b → (knows xs n ≡ true → knows (xs ++ m ∷ []) n ≡ true) → knows ((x ∷ xs) ++ m ∷ []) n ≡ true
-  by true is ih = rw is refl
-  by false is ih = let rest : knows xs n ≡ true = rw is at h in rw is (ih rest)
+  where
+    by : (b : Bool) → bytes_eq x n ≡ b → (knows xs n ≡ true → knows (xs ++ m ∷ []) n ≡ true) → knows ((x ∷ xs) ++ m ∷ []) n ≡ true
+    by true is ih = rw is refl
+    by false is ih = let rest : knows xs n ≡ true = rw is at h in rw is (ih rest)
 
 known_push : (xs : Names) (n : List ℕ) → knows (xs ++ n ∷ []) n ≡ true
 known_push [] n = rw (bytes_same n) refl
@@ -68,31 +68,31 @@ known_push (x ∷ xs) n = or_right (bytes_eq x n) (knows (xs ++ n ∷ []) n) (kn
 number_push : (xs : Names) (n : List ℕ) → number_of (xs ++ n ∷ []) n ≡ number_of xs n
 number_push [] n = rw (bytes_same n) refl
 number_push (x ∷ xs) n = by (bytes_eq x n) refl (number_push xs n)
- where
-  by : (b : Bool) → bytes_eq x n ≡ b → number_of (xs ++ n ∷ []) n ≡ number_of xs n → number_of ((x ∷ xs) ++ n ∷ []) n ≡ number_of (x ∷ xs) n
-  by true is ih = rw is refl
-  by false is ih = rw is (ap suc ih)
+  where
+    by : (b : Bool) → bytes_eq x n ≡ b → number_of (xs ++ n ∷ []) n ≡ number_of xs n → number_of ((x ∷ xs) ++ n ∷ []) n ≡ number_of (x ∷ xs) n
+    by true is ih = rw is refl
+    by false is ih = rw is (ap suc ih)
 
 grows_name : (xs : Names) (m : List ℕ) → Grows xs (with_name xs m)
 grows_name xs m = by (knows xs m) refl
- where
-  by : (b : Bool) → knows xs m ≡ b → Grows xs (if b then xs else xs ++ m ∷ [])
-  by true is = grows_same xs
-  by false is = record { kept = kept_push xs m; seen = seen_push xs m }
+  where
+    by : (b : Bool) → knows xs m ≡ b → Grows xs (if b then xs else xs ++ m ∷ [])
+    by true is = grows_same xs
+    by false is = record { kept = kept_push xs m; seen = seen_push xs m }
 
 known_name : (xs : Names) (m : List ℕ) → knows (with_name xs m) m ≡ true
 known_name xs m = by (knows xs m) refl
- where
-  by : (b : Bool) → knows xs m ≡ b → knows (if b then xs else xs ++ m ∷ []) m ≡ true
-  by true is = is
-  by false is = known_push xs m
+  where
+    by : (b : Bool) → knows xs m ≡ b → knows (if b then xs else xs ++ m ∷ []) m ≡ true
+    by true is = is
+    by false is = known_push xs m
 
 number_name : (xs : Names) (m : List ℕ) → number_of (with_name xs m) m ≡ number_of xs m
 number_name xs m = by (knows xs m) refl
- where
-  by : (b : Bool) → knows xs m ≡ b → number_of (if b then xs else xs ++ m ∷ []) m ≡ number_of xs m
-  by true is = refl
-  by false is = number_push xs m
+  where
+    by : (b : Bool) → knows xs m ≡ b → number_of (if b then xs else xs ++ m ∷ []) m ≡ number_of xs m
+    by true is = refl
+    by false is = number_push xs m
 
 grows_names : (xs : Names) (ns : Names) → Grows xs (with_names xs ns)
 grows_names xs [] = grows_same xs
@@ -156,12 +156,12 @@ all_known ss = known_all [] ss (names_in [] ss) (grows_same (names_in [] ss))
 pub numbers_apart : (xs : Names) (a b : List ℕ) → knows xs a ≡ true → number_of xs a ≡ number_of xs b → a ≡ b
 numbers_apart [] a b h e = absurd cc
 numbers_apart (x ∷ xs) a b h e = by (bytes_eq x a) (bytes_eq x b) refl refl (numbers_apart xs a b)
- where
-  by : (p q : Bool) → bytes_eq x a ≡ p → bytes_eq x b ≡ q → (knows xs a ≡ true → number_of xs a ≡ number_of xs b → a ≡ b) → a ≡ b
-  by true true f g ih = sym ((bytes_eq-Decides x a).0 f) ∙ (bytes_eq-Decides x b).0 g
-  by true false f g ih = let clash : zero ≡ suc (number_of xs b) = rw (f, g) at e in absurd (omega arith)
-  by false true f g ih = let clash : suc (number_of xs a) ≡ zero = rw (f, g) at e in absurd (omega arith)
-  by false false f g ih =
-      let same : suc (number_of xs a) ≡ suc (number_of xs b) = rw (f, g) at e in
-      let rest : knows xs a ≡ true = rw f at h in
-      ih rest (omega arith)
+  where
+    by : (p q : Bool) → bytes_eq x a ≡ p → bytes_eq x b ≡ q → (knows xs a ≡ true → number_of xs a ≡ number_of xs b → a ≡ b) → a ≡ b
+    by true true f g ih = sym ((bytes_eq-Decides x a).0 f) ∙ (bytes_eq-Decides x b).0 g
+    by true false f g ih = let clash : zero ≡ suc (number_of xs b) = rw (f, g) at e in absurd (omega arith)
+    by false true f g ih = let clash : suc (number_of xs a) ≡ zero = rw (f, g) at e in absurd (omega arith)
+    by false false f g ih =
+        let same : suc (number_of xs a) ≡ suc (number_of xs b) = rw (f, g) at e in
+        let rest : knows xs a ≡ true = rw f at h in
+        ih rest (omega arith)
