@@ -1,7 +1,7 @@
 -- The lines of a printed program: their sizes, their symbol table, and the code that they become.
 use Rattle.std.proofs.Common.{◌≡◌, ℕ, ℤ, pos, negsuc, suc, ◌+◌, ◌*◌, ◌^◌, ◌<◌, ◌≤◌, List, [], ◌∷◌, ◌++◌, length, map, Bool, true, false, Some, None, Option, Result, Ok, refl, arith, ap, sym, subst, ◌∙◌, append_assoc, length-append}
-use Rattle.std.specs.Prelude.{◌==◌, ◌+ℤ◌, ◌-ℤ◌, if◌then◌else◌, find, not, is_none}
-use Rattle.std.specs.List.{flat_map, list_any, list_all}
+use Rattle.std.specs.Prelude.{◌==◌, ◌+ℤ◌, ◌-ℤ◌, if◌then◌else◌, find, not, is_none, is_some}
+use Rattle.std.specs.List.{flat_map, list_all}
 use Rattle.std.proofs.lemmas.Bool.{eqb-true, eqb-false, eq-eqb, ne_eqb, lt-ltb, and_parts}
 use Rattle.std.proofs.lemmas.Int.{ints}
 use Rattle.std.proofs.lemmas.List.{append-nil, map-append, length-map}
@@ -327,23 +327,32 @@ place_of f ts at end t (p ∷ ps) a h low listed stands = by (p.pc == t) refl (p
         let up = link_rises at p h.0 in
         passed_by f ts end t p.pc (marks f ts end ps) a low (omega (arith, more, up)) listed (λ e. eqb-false p.pc t is e) ∙ ih rest
 
-abbrev Clean : (List ℕ → ℕ) → List ℕ → ℕ → ℕ → List ℕ → Type 0
-Clean f ts at end seen = (t : ℕ) → at ≤ t → t ≤ end → is_in ts t ≡ true → list_any (λ k. k == f (label_name t)) seen ≡ false
+-- no label of a place from here on stands in the table
+abbrev Clean : (List ℕ → ℕ) → List ℕ → ℕ → ℕ → List (ℕ × ℕ) → Type 0
+Clean f ts at end seen = (t : ℕ) → at ≤ t → t ≤ end → is_in ts t ≡ true → place_in seen (f (label_name t)) ≡ None
 
-clean_more : (f : List ℕ → ℕ) (ts : List ℕ) (at next end : ℕ) (seen : List ℕ) → IsApart f ts end → at < next → at ≤ end → is_in ts at ≡ true → Clean f ts at end seen → Clean f ts next end (f (label_name at) ∷ seen)
+none_pushed : (seen : List (ℕ × ℕ)) (k m n : ℕ) → (m == k) ≡ false → place_in seen k ≡ None → place_in (seen ++ (m, n) ∷ []) k ≡ None
+none_pushed [] k m n other h = rw other refl
+none_pushed (s ∷ seen) k m n other h = by (s.0 == k) refl (none_pushed seen k m n other)
+  where
+    by : (b : Bool) → (s.0 == k) ≡ b → (place_in seen k ≡ None → place_in (seen ++ (m, n) ∷ []) k ≡ None) → place_in ((s ∷ seen) ++ (m, n) ∷ []) k ≡ None
+    by true is ih = let clash : Some s.1 ≡ None = rw is at h in absurd cc
+    by false is ih = let rest : place_in seen k ≡ None = rw is at h in rw is (ih rest)
+
+clean_more : (f : List ℕ → ℕ) (ts : List ℕ) (at next end : ℕ) (seen : List (ℕ × ℕ)) → IsApart f ts end → at < next → at ≤ end → is_in ts at ≡ true → Clean f ts at end seen
+    → Clean f ts next end (seen ++ (f (label_name at), at) ∷ [])
 clean_more f ts at next end seen a low high listed clean t l h is =
     let other : (f (label_name at) == f (label_name t)) ≡ false = ne_eqb (f (label_name at)) (f (label_name t)) (λ e. absurd (omega (arith, a.apart at t high h listed e))) in
-    let rest = clean t (omega arith) h is in
-    rw (other, rest) refl
+    none_pushed seen (f (label_name t)) (f (label_name at)) at other (clean t (omega arith) h is)
 
-again_by : (f : List ℕ → ℕ) (ts : List ℕ) (at next end : ℕ) (seen : List ℕ) (rest : List (ℕ × ℕ)) (b : Bool) → is_in ts at ≡ b → IsApart f ts end → at < next → at ≤ end → Clean f ts at end seen
-    → ((more : List ℕ) → Clean f ts next end more → first_again more rest ≡ None) → first_again seen ((if b then (f (label_name at), at) ∷ [] else []) ++ rest) ≡ None
+again_by : (f : List ℕ → ℕ) (ts : List ℕ) (at next end : ℕ) (seen rest : List (ℕ × ℕ)) (b : Bool) → is_in ts at ≡ b → IsApart f ts end → at < next → at ≤ end → Clean f ts at end seen
+    → ((more : List (ℕ × ℕ)) → Clean f ts next end more → first_again more rest ≡ None) → first_again seen ((if b then (f (label_name at), at) ∷ [] else []) ++ rest) ≡ None
 again_by f ts at next end seen rest true is a low high clean ih =
-    let first = clean at (omega arith) high is in
-    rw first (ih (f (label_name at) ∷ seen) (clean_more f ts at next end seen a low high is clean))
+    let first : is_some (place_in seen (f (label_name at))) ≡ false = ap is_some (clean at (omega arith) high is) in
+    rw first (ih (seen ++ (f (label_name at), at) ∷ []) (clean_more f ts at next end seen a low high is clean))
 again_by f ts at next end seen rest false is a low high clean ih = ih seen (λ t l h listed. clean t (omega arith) h listed)
 
-pub none_again : (f : List ℕ → ℕ) (ts : List ℕ) (at end : ℕ) (ps : List Placed) (seen : List ℕ) → IsApart f ts end → IsChain at end ps → Clean f ts at end seen → first_again seen (marks f ts end ps) ≡ None
+pub none_again : (f : List ℕ → ℕ) (ts : List ℕ) (at end : ℕ) (ps : List Placed) (seen : List (ℕ × ℕ)) → IsApart f ts end → IsChain at end ps → Clean f ts at end seen → first_again seen (marks f ts end ps) ≡ None
 none_again f ts at end [] seen a h clean =
     ap (first_again seen) (sym (append-nil (mark f ts end)))
     ∙ again_by f ts end (suc end) end seen [] (is_in ts end) refl a (omega arith) (omega arith) (λ t l low listed. clean t (omega arith) low listed) (λ more c. refl)
