@@ -1,0 +1,4 @@
+pub mod LawChain
+pub mod LawNumbers
+pub mod LawLines
+pub mod Labels
