@@ -99,7 +99,7 @@ cut_more n (b ∷ bs) rest h =
     ∙ ap (λ v. v ∷ words_in (suc n) (drop (length (b ∷ bs)) (b ∷ text))) (take-append_seam (b ∷ bs) (32 ∷ rest))
     ∙ ap (λ r. (b ∷ bs) ∷ words_in (suc n) r) (drop-append_seam (b ∷ bs) (32 ∷ rest))
 
-abbrev are_words : List (List ℕ) → Bool
+abbrev pub are_words : List (List ℕ) → Bool
 are_words ws = list_all is_word ws
 
 word_some : (w : List ℕ) → is_word w ≡ true → 0 < length w
