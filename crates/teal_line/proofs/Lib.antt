@@ -1,5 +1,7 @@
-pub mod Cutting
+pub mod Joined
+pub mod WordSteps
 pub mod Numerals
+pub mod NumberSteps
 pub mod Printed
 pub mod Named
 pub mod Law

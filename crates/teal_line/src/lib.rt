@@ -1,8 +1,12 @@
 //! One line of TEAL text: its words, what they say, and how a statement is printed.
 #![tactic(auto)]
 
+mod cutting;
 mod laws;
+mod names;
+mod numbers;
 mod statement;
 
+pub use cutting::words;
 pub use laws::statements_read_back;
 pub use statement::{Flaw, Names, Statement};
