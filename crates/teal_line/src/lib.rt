@@ -1,6 +1,7 @@
 //! One line of TEAL text: its words, what they say, and how a statement is printed.
 #![tactic(auto)]
 
+mod bytes;
 mod cutting;
 mod laws;
 mod names;
