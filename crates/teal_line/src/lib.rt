@@ -3,11 +3,15 @@
 
 mod bytes;
 mod cutting;
+mod labels;
 mod laws;
 mod names;
 mod numbers;
+mod operands;
+mod reading;
 mod statement;
 
 pub use cutting::words;
 pub use laws::statements_read_back;
+pub use reading::said;
 pub use statement::{Flaw, Names, Statement};

@@ -103,3 +103,19 @@ pub(crate) fn byte(word: &[u8]) -> Result<u8, Flaw>
 {
     below(256, whole(word)).ok_or(Flaw::Number)
 }
+
+/// A number of 8 bits in two's complement: a `-` may stand before a decimal number.
+pub(crate) fn signed(word: &[u8]) -> Result<i8, Flaw>
+    ensures { result ≡ reading.or_flaw Flaw.Number (spec.signed_said word.now) }
+{
+    match word {
+        [b'-', digits @ ..] => {
+            let number = below(129, decimal(digits)).ok_or(Flaw::Number)?;
+            Ok((-i16::from(number)) as i8)
+        }
+        _ => {
+            let number = below(128, whole(word)).ok_or(Flaw::Number)?;
+            Ok(number as i8)
+        }
+    }
+}
