@@ -78,8 +78,8 @@ pub(crate) fn names(alloc: Global, words: &[&[u8]]) -> Result<Names, Memory>
 pub(crate) fn before_colon(word: &[u8]) -> Option<&[u8]>
     ensures { option_map (λ name. name.now) result ≡ reading.before_colon word.now }
 {
-    match word {
-        [name @ .., b':'] => Some(name),
-        _ => None,
-    }
+    let [name @ .., last] = word else {
+        return None;
+    };
+    if *last == b':' { Some(name) } else { None }
 }

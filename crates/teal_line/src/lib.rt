@@ -8,10 +8,12 @@ mod laws;
 mod names;
 mod numbers;
 mod operands;
+mod printing;
 mod reading;
 mod statement;
 
 pub use cutting::words;
 pub use laws::statements_read_back;
+pub use printing::push_statement;
 pub use reading::said;
 pub use statement::{Flaw, Names, Statement};

@@ -1,7 +1,7 @@
 //! The immediates that words say, form by form.
 
 ghost use Rattle.std.specs.Prelude.{◌≡◌, ◌^◌, map};
-ghost use Rattle.teal_line.specs.Reading.{Says, imm_said, each, none, number as number_said, bytes as bytes_said};
+ghost use Rattle.teal_line.specs.Reading.{Says, imm_said, each, one, said_as, number as number_said, bytes as bytes_said};
 
 use crate::bytes::bytes;
 use crate::names::field_named;
@@ -102,6 +102,16 @@ fn one_field(fields: Fields, words: &[&[u8]]) -> Result<Imm, Flaw>
     }
 }
 
+/// A field's number, and one word that says a byte.
+fn with_byte(field: u8, words: &[&[u8]]) -> Result<Imm, Flaw>
+    ensures { Says result (one (λ w. said_as (Imm.Two field) (number_said 256 w)) (map (λ w. w.now) words.now)) }
+{
+    match words {
+        [word] => Ok(Imm::Two(field, byte(word)?)),
+        _ => Err(Flaw::Count),
+    }
+}
+
 fn field_and_byte(fields: Fields, words: &[&[u8]]) -> Result<Imm, Flaw>
     ensures { Says result (imm_said (Format.FieldAndByte fields) (map (λ w. w.now) words.now)) }
 {
@@ -111,10 +121,7 @@ fn field_and_byte(fields: Fields, words: &[&[u8]]) -> Result<Imm, Flaw>
     let Some(field) = field_named(fields, name) else {
         return Err(Flaw::Word);
     };
-    match rest {
-        [word] => Ok(Imm::Two(field, byte(word)?)),
-        _ => Err(Flaw::Count),
-    }
+    with_byte(field, rest)
 }
 
 /// The immediates that words say in a form without branches.
