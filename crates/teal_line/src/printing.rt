@@ -147,10 +147,10 @@ fn push_operation(alloc: Global, instr: &Instr, into: &mut Blob) -> Result<(), M
     ensures { OnOk result (into.new ≡ into.old ++ statement_text (Statement.Op instr.now)) }
 {
     into.extend(name_of(instr.op))?;
-    match row(instr.op) {
-        Some(row) => push_immediates(alloc, row.format, &instr.imm, into),
-        None => Ok(()),
+    if let Some(row) = row(instr.op) {
+        push_immediates(alloc, row.format, &instr.imm, into)?;
     }
+    Ok(())
 }
 
 #[tactic(auto, unfolding(crate::specs::Printing::statement_text))]
@@ -194,7 +194,8 @@ fn push_table(kind: TableKind, names: &[Name], into: &mut Blob) -> Result<(), Me
     ensures { OnOk result (into.new ≡ into.old ++ statement_text (Statement.Table kind names.now)) }
 {
     into.extend(name_of(table_opcode(kind)))?;
-    push_names(names, into)
+    push_names(names, into)?;
+    Ok(())
 }
 
 /// Appends the printed line of a statement without its line feed: the name, then a space and each immediate; numbers in
