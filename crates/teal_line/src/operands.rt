@@ -125,11 +125,7 @@ fn field_and_byte(fields: Fields, words: &[&[u8]]) -> Result<Imm, Flaw>
 }
 
 /// The immediates that words say in a form without branches.
-pub(crate) fn immediates(
-    alloc: Global,
-    format: Format,
-    words: &[&[u8]],
-) -> Result<Imm, Flaw>
+pub(crate) fn immediates(alloc: Global, format: Format, words: &[&[u8]]) -> Result<Imm, Flaw>
     ensures { Says result (imm_said format (map (λ w. w.now) words.now)) }
 {
     match format {

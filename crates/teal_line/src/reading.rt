@@ -60,12 +60,7 @@ fn table(alloc: Global, op: u8, words: &[&[u8]]) -> Result<Statement, Flaw>
     Ok(Statement::Table(table_kind(op), names(alloc, words)?))
 }
 
-fn operation(
-    alloc: Global,
-    op: u8,
-    format: Format,
-    words: &[&[u8]],
-) -> Result<Statement, Flaw>
+fn operation(alloc: Global, op: u8, format: Format, words: &[&[u8]]) -> Result<Statement, Flaw>
     ensures { Says result (said_as (λ i. Statement.Op (record { op = op; imm = i })) (imm_said format (map (λ w. w.now) words.now))) }
 {
     let imm = immediates(alloc, format, words)?;
@@ -73,12 +68,7 @@ fn operation(
 }
 
 /// What an instruction of a form says with these words behind its name.
-fn statement(
-    alloc: Global,
-    op: u8,
-    format: Format,
-    words: &[&[u8]],
-) -> Result<Statement, Flaw>
+fn statement(alloc: Global, op: u8, format: Format, words: &[&[u8]]) -> Result<Statement, Flaw>
     ensures { Says result (statement_in op format (map (λ w. w.now) words.now)) }
 {
     match format {
