@@ -1,6 +1,6 @@
 -- What words say has the form of its instruction.
 use Rattle.std.proofs.Common.{◌≡◌, ℕ, ℤ, zero, suc, ◌+◌, ◌≤◌, ◌<◌, ◌^◌, Bool, true, false, not, List, [], ◌∷◌, length, map, ◌||◌, Option, Some, None, Result, Ok, Err, refl, arith, ap, sym, ◌∙◌, subst, IsTrue}
-use Rattle.std.specs.Prelude.{◌==◌, nat_lt, if◌then◌else◌, pos, negsuc, neg_ℤ, option_map, bytes_eq}
+use Rattle.std.specs.Prelude.{◌==◌, nat_lt, if◌then◌else◌, pos, negsuc, neg_ℤ, option_map, bytes_eq, IfOk}
 use Rattle.std.specs.List.{All, list_all, list_any}
 use Rattle.std.specs.Int.RustNames.{FitsSigned}
 use Rattle.std.specs.Int.{w8}
@@ -27,7 +27,7 @@ use Rattle.teal_line.specs.declared.statement.Flaw.{Flaw}
 use Rattle.teal_line.specs.declared.statement.Flaw.TheVariants as flaw
 use Rattle.teal_line.specs.Mnemonics.{opcode_named, field_named, field_names, number_in}
 use Rattle.teal_line.specs.Operands.{is_some_label, number_said, signed_said, below, decimal_value, whole_value, behind_0x}
-use Rattle.teal_line.specs.Reading.{jump_kind, table_kind, Said, said_as, then_said, or_flaw, number, bytes, one, two, none, each, named_first, label_word, imm_said, labels_said, statement_in, by_row, by_opcode, before_colon, label_line, by_first, says}
+use Rattle.teal_line.specs.Reading.{Says, jump_kind, table_kind, Said, said_as, then_said, or_flaw, number, bytes, one, two, none, each, named_first, label_word, imm_said, labels_said, statement_in, by_row, by_opcode, before_colon, label_line, by_first, says}
 use Rattle.teal_line.specs.Printing.{IsStatement}
 use Rattle.teal_line.specs.Counted.{IsCounted, IsCountedText, IsCountedStatement}
 
@@ -301,3 +301,7 @@ first_form None w ws s h c = opcode_form (opcode_named w) ws s h c
 pub said_form : (w : List ℕ) (ws : List (List ℕ)) (s : Statement) → says w ws ≡ Ok s → IsCountedStatement s → IsStatement s
 unfolding says
 said_form w ws s h c = first_form (before_colon w) w ws s h c
+
+pub form_of : (w : List ℕ) (ws : List (List ℕ)) (r : Said Statement) → Says r (says w ws) → IfOk r IsCountedStatement → IfOk r IsStatement
+form_of w ws (Ok s) h c = said_form w ws s h c
+form_of w ws (Err e) h c = tt
