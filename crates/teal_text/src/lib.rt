@@ -1,6 +1,12 @@
 //! TEAL text: a program printed as text, and text read as lines.
 #![tactic(auto)]
 
+mod decoding;
 mod fault;
+mod names;
+mod numbering;
+mod print;
+mod targets;
 
 pub use fault::TealFault;
+pub use print::print;
