@@ -5,8 +5,8 @@ mod decoding;
 mod fault;
 mod names;
 mod numbering;
-mod print;
+mod printing;
 mod targets;
 
 pub use fault::TealFault;
-pub use print::print;
+pub use printing::print;

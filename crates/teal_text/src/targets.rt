@@ -61,7 +61,7 @@ pub(crate) fn place_after(next: usize, offset: i16) -> usize
 
 fn add_each(places: &mut Places, offsets: &[i16], next: usize) -> Result<(), Memory>
     requires { next < 2 ^ 63 - 2 ^ 15 }
-    ensures { OnOk result (places.new ≡ with_places places.old (map (λ j. place (target next j)) offsets.now)) }
+    ensures { OnOk result (places.new ≡ with_places places.old (map place (map (target next) offsets.now))) }
 {
     for offset in offsets {
         places.add(place_after(next, *offset))?;
@@ -81,6 +81,14 @@ fn add_targets(places: &mut Places, instr: &Instr, next: usize) -> Result<(), Me
     }
 }
 
+/// The same of an instruction that is not used again.
+fn gather(places: &mut Places, instr: Instr, next: usize) -> Result<(), Memory>
+    requires { next < 2 ^ 63 - 2 ^ 15 }
+    ensures { OnOk result (places.new ≡ with_places places.old (map place (targets_of next instr.imm))) }
+{
+    add_targets(places, &instr, next)
+}
+
 /// The places to which a program branches.
 pub(crate) fn targets_of(alloc: Global, code: &[u8]) -> Result<Places, Memory>
     requires { length code.now < 2 ^ 62 }
@@ -90,7 +98,7 @@ pub(crate) fn targets_of(alloc: Global, code: &[u8]) -> Result<Places, Memory>
     let mut pc = 1;
     while pc < code.len() {
         let (instr, next) = instruction_at(alloc, code, pc)?;
-        add_targets(&mut places, &instr, next)?;
+        gather(&mut places, instr, next)?;
         pc = next;
     }
     Ok(places)
