@@ -104,15 +104,15 @@ or_twice false b = sym (or-false b)
 same_place : (t p x : ℕ) (b : Bool) → (x == p) ≡ b → (t == x) ≡ true → (t == p) ≡ b
 same_place t p x b e h = let same : t ≡ x = grind (arith, nat_tests) in rw same e
 
+or_step : (p x t : ℕ) (seen : List ℕ) (b v : Bool) → (x == p) ≡ b → (t == x) ≡ v → list_any (λ t. t == x) (t ∷ seen) ≡ true
+    → (list_any (λ t. t == x) seen ≡ true → list_any (λ t. t == p) seen ≡ (list_any (λ t. t == p) seen || b)) → list_any (λ t. t == p) (t ∷ seen) ≡ (list_any (λ t. t == p) (t ∷ seen) || b)
+or_step p x t seen b true e f h more = let g : (t == p) ≡ b = same_place t p x b e f in rw g (or_twice b (list_any (λ t. t == p) seen))
+or_step p x t seen b false e f h more =
+    ap (λ v. (t == p) || v) (more (sym (ap (λ v. v || list_any (λ t. t == x) seen) f) ∙ h)) ∙ sym (or_assoc (t == p) (list_any (λ t. t == p) seen) b)
+
 or_same : (p x : ℕ) (seen : List ℕ) (b : Bool) → (x == p) ≡ b → list_any (λ t. t == x) seen ≡ true → list_any (λ t. t == p) seen ≡ (list_any (λ t. t == p) seen || b)
 or_same p x [] b e h = cc
-or_same p x (t ∷ seen) b e h = by (t == x) refl
-  where
-    by : (v : Bool) → (t == x) ≡ v → list_any (λ t. t == p) (t ∷ seen) ≡ (list_any (λ t. t == p) (t ∷ seen) || b)
-    by true f = let g : (t == p) ≡ b = same_place t p x b e f in rw g (or_twice b (list_any (λ t. t == p) seen))
-    by false f =
-        let h' : list_any (λ t. t == x) seen ≡ true = sym (ap (λ v. v || list_any (λ t. t == x) seen) f) ∙ h in
-        ap (λ v. (t == p) || v) (or_same p x seen b e h') ∙ sym (or_assoc (t == p) (list_any (λ t. t == p) seen) b)
+or_same p x (t ∷ seen) b e h = or_step p x t seen b (t == x) e refl h (or_same p x seen b e)
 
 one_place : (p x : ℕ) (seen : List ℕ) (v : Bool) → list_any (λ t. t == x) seen ≡ v → list_any (λ t. t == p) (with_place seen x) ≡ (list_any (λ t. t == p) seen || (x == p))
 one_place p x seen true h = rw h (or_same p x seen (x == p) refl h)
