@@ -3,10 +3,13 @@
 
 mod decoding;
 mod fault;
+mod line_words;
 mod names;
 mod numbering;
 mod printing;
+mod reading;
 mod targets;
 
 pub use fault::TealFault;
 pub use printing::print;
+pub use reading::read;
