@@ -17,10 +17,10 @@ same_by a b false true p q = sym p ∙ (bytes_eq-Decides a b).1 (sym ((bytes_eq-
 pub same_both_ways : (a b : List ℕ) → bytes_eq a b ≡ bytes_eq b a
 same_both_ways a b = same_by a b (bytes_eq a b) (bytes_eq b a) refl refl
 
-both_suc : (a b : ℕ) → nat_lt a b ≡ nat_lt (1 + a) (suc b)
+pub both_suc : (a b : ℕ) → nat_lt a b ≡ nat_lt (1 + a) (suc b)
 both_suc a b = grind (arith, nat_tests)
 
-below_suc : (a b : ℕ) → a ≤ b → nat_lt a (suc b) ≡ true
+pub below_suc : (a b : ℕ) → a ≤ b → nat_lt a (suc b) ≡ true
 below_suc a b h = grind (arith, nat_tests)
 
 within : (a b : ℕ) → a ≤ b → nat_lt a b ≡ false → b ≡ a

@@ -1,4 +1,5 @@
-ghost use Rattle.std.specs.Prelude.{◌≡◌, ◌==◌, ◌<◌, ◌≤◌, ◌+◌, ◌^◌, ◌++◌, Bool, true, map, length, position, IfOk, OnOk};
+ghost use Rattle.std.specs.Prelude.{◌≡◌, ◌==◌, ◌<◌, ◌≤◌, ◌+◌, ◌^◌, ◌++◌, Bool, true, map, length, take, drop, nat_le, position, IfSome, IfOk, OnOk};
+ghost use Rattle.std.specs.List.{list_any};
 ghost use Rattle.avm_asm.specs.Listing.{AreLines};
 ghost use Rattle.teal_line.specs.Words.{words_of};
 ghost use Rattle.teal_text.specs.Reading.{Reads, is_ascii, line_says, read_of, versioned_by, without_return};
@@ -11,7 +12,7 @@ use crate::numbering::line_of;
 use avm_asm::Lines;
 use puya_base::{List, Memory};
 use std::alloc::Global;
-use teal_line::{Statement, words};
+use teal_line::Statement;
 
 /// What was read so far.
 #[derive(Drop)]
@@ -24,10 +25,22 @@ struct Reading {
     lines: Lines,
 }
 
+fn words<'a>(alloc: Global, line: &'a [u8]) -> Result<List<&'a [u8]>, Memory>
+    ensures { IfOk result (λ ws. map (λ w. w.now) ws ≡ words_of line.now) }
+{
+    Err(Memory)
+}
+
+fn has_high_byte(line: &[u8]) -> bool
+    ensures { result ≡ list_any (λ b. nat_le 128 b) line.now }
+{
+    line.iter().any(|b| 128 <= *b)
+}
+
 fn is_ascii(line: &[u8]) -> bool
     ensures { result ≡ is_ascii line.now }
 {
-    !line.iter().any(|b| 128 <= *b)
+    !has_high_byte(line)
 }
 
 /// The words of a line of ASCII.
@@ -84,10 +97,28 @@ fn without_return(line: &[u8]) -> &[u8]
     }
 }
 
+/// The place of the first line feed.
 fn line_end(text: &[u8]) -> Option<usize>
-    ensures { result ≡ position (λ b. b == 10) text.now }
+    ensures place { result ≡ position (λ b. b == 10) text.now }
+    ensures within { IfSome result (λ i. i < length text.now) }
 {
     text.iter().position(|b| *b == b'\n')
+}
+
+/// The first line, whose line feed stands at that place.
+fn line_at(text: &[u8], end: usize) -> &[u8]
+    requires { end < length text.now }
+    ensures { result.now ≡ without_return (take end text.now) }
+{
+    without_return(&text[..end])
+}
+
+/// What stands behind the line feed at that place.
+fn text_behind(text: &[u8], end: usize) -> &[u8]
+    requires { end < length text.now }
+    ensures { result.now ≡ drop (end + 1) text.now }
+{
+    &text[end + 1..]
 }
 
 /// Reads the next line.
@@ -131,8 +162,8 @@ pub fn read(alloc: Global, text: &[u8]) -> Result<Lines, TealFault>
     };
     let mut rest = text;
     while let Some(end) = line_end(rest) {
-        read_line(alloc, &mut reading, without_return(&rest[..end]))?;
-        rest = &rest[end + 1..];
+        read_line(alloc, &mut reading, line_at(rest, end))?;
+        rest = text_behind(rest, end);
     }
     read_line(alloc, &mut reading, rest)?;
     if reading.versioned {
