@@ -1,4 +1,5 @@
 pub mod Listing
 pub mod Assembled
+pub mod Steps
 pub use Rattle.avm_ops.specs.Code
 pub use Rattle.avm_ops.specs.Immediate

@@ -1,5 +1,6 @@
 use avm_ops::Instr;
-use puya_base::List;
+use puya_base::{List, Memory};
+use std::alloc::AllocError;
 
 /// The labels that a table names, at most 255 of them.
 pub type Labels = List<u32>;
@@ -44,4 +45,26 @@ pub enum AsmFault {
     /// A branch to that label would lead so many bytes on, which 16 signed bits don't hold.
     Far(u32, i64),
     Memory,
+}
+
+impl From<AllocError> for AsmFault {
+    ghost use Rattle.std.specs.Prelude.{◌≡◌};
+    ghost use Rattle.avm_asm.specs.declared.line.AsmFault.{AsmFault};
+
+    ghost from_gives = { λ _ e. e ≡ AsmFault.Memory };
+
+    fn from(_e: AllocError) -> AsmFault {
+        AsmFault::Memory
+    }
+}
+
+impl From<Memory> for AsmFault {
+    ghost use Rattle.std.specs.Prelude.{◌≡◌};
+    ghost use Rattle.avm_asm.specs.declared.line.AsmFault.{AsmFault};
+
+    ghost from_gives = { λ _ e. e ≡ AsmFault.Memory };
+
+    fn from(_e: Memory) -> AsmFault {
+        AsmFault::Memory
+    }
 }

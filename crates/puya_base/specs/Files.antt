@@ -55,6 +55,14 @@ FailsOnlyBy before now (Err TooLong) = before ≤ now
 FailsOnlyBy before now (Err Failed) = (before ≤ now) × Rose before now
 FailsOnlyBy before now (Err Memory) = before ≤ now
 
+-- the same of a write, which answers no other refusal
+abbrev pub WriteFailsOnlyBy : ℕ → ℕ → Result ⊤ FileFault → Type 0
+WriteFailsOnlyBy before now (Ok u) = before ≤ now
+WriteFailsOnlyBy before now (Err Missing) = ⊥
+WriteFailsOnlyBy before now (Err TooLong) = ⊥
+WriteFailsOnlyBy before now (Err Failed) = (before ≤ now) × Rose before now
+WriteFailsOnlyBy before now (Err Memory) = before ≤ now
+
 -- what a sink has taken: all the bytes, or after a failure a front of them
 abbrev pub PutGives : List ℕ → List ℕ → List ℕ → Result ⊤ SinkFault → Type 0
 PutGives old new bytes (Ok u) = new ≡ old ++ bytes

@@ -1,7 +1,7 @@
 ghost use Rattle.std.specs.Prelude.{◌≡◌, ℕ, ◌≤◌, if◌then◌else◌, List, [], length, Option, OnErr, IfSome};
 ghost use Rattle.std.specs.FinMap as map;
 ghost use Rattle.puya_base.specs.InMemory.{first_half};
-ghost use Rattle.puya_base.specs.Files.{Held, ReadGives, WriteGives, Told, FailsOnlyBy, PutGives, ToldBytes, PutFailsOnlyBy, max_length, IsFront};
+ghost use Rattle.puya_base.specs.Files.{Held, ReadGives, WriteGives, Told, FailsOnlyBy, WriteFailsOnlyBy, PutGives, ToldBytes, PutFailsOnlyBy, max_length, IsFront};
 
 use crate::blob::Blob;
 use crate::faults::{FileFault, SinkFault};
@@ -24,9 +24,10 @@ pub trait Files {
         ensures cause { FailsOnlyBy (faults self.old) (faults self.new) result };
 
     /// Makes the name hold the bytes. After `Failed` it holds a front of them, or what it held before; no other name changes.
+    /// `Missing` and `TooLong` never come.
     fn write(&mut self, name: &str, bytes: &[u8]) -> Result<(), FileFault>
         ensures told { Told (contents self.old) (contents self.new) (λ old new. WriteGives old new name.now bytes.now result) }
-        ensures cause { FailsOnlyBy (faults self.old) (faults self.new) result };
+        ensures cause { WriteFailsOnlyBy (faults self.old) (faults self.new) result };
 }
 
 /// Where text goes, by the bytes that it has taken and by how often it has failed.

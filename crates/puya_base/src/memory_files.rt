@@ -2,7 +2,7 @@ ghost use Rattle.std.specs.Option.{option_copied};
 ghost use Rattle.std.specs.Str.{bytes_eq};
 ghost use Rattle.std.specs.Prelude.{◌≡◌, ◌≤◌, [], ◌∷◌, ◌++◌, Some, OnErr, OnOk, find, length, option_map, reverse};
 ghost use Rattle.std.specs.FinMap as map;
-ghost use Rattle.puya_base.specs.Files.{ReadGives, WriteGives, FailsOnlyBy, max_length};
+ghost use Rattle.puya_base.specs.Files.{ReadGives, WriteGives, FailsOnlyBy, WriteFailsOnlyBy, max_length};
 ghost use Rattle.puya_base.specs.Calls.{CountsFileCall};
 ghost use Rattle.puya_base.specs.InMemory.{WritesInMemory};
 ghost use Rattle.puya_base.specs.Written.{held_of};
@@ -137,7 +137,7 @@ impl Files for MemoryFiles {
 
     fn write(&mut self, name: &str, bytes: &[u8]) -> Result<(), FileFault>
         ensures told { WriteGives self.old.held self.new.held name.now bytes.now result }
-        ensures cause { FailsOnlyBy self.old.calls.faults self.new.calls.faults result }
+        ensures cause { WriteFailsOnlyBy self.old.calls.faults self.new.calls.faults result }
         ensures calls { CountsFileCall self.old.calls self.new.calls result }
         ensures half { WritesInMemory self.old.held self.new.held name.now bytes.now result }
     {

@@ -1,3 +1,9 @@
 pub mod NameNumbers
 pub mod Walks
 pub mod TextSteps
+pub mod TextLines
+pub mod TextBytes
+pub mod LawChain
+pub mod LawNumbers
+pub mod LawLines
+pub mod Labels

@@ -1,0 +1,7 @@
+use Rattle.std.proofs.Common.{rules}
+use Rattle.avm_ops.specs.Table.{row_of, table}
+use Rattle.avm_asm.proofs.tests.push_one.Goals as goal
+
+pub returns : goal.returns
+unfolding row_of table
+returns c = search rules

@@ -1,0 +1,15 @@
+use Rattle.std.proofs.Common.{subst}
+use Rattle.std.specs.Prelude.{codes, Result}
+use Rattle.serde_json.specs.View.{view}
+use Rattle.avm_state.specs.LedgerState.{LedgerState}
+use Rattle.call_file.specs.declared.fault.CallFault.{CallFault}
+use Rattle.call_file.specs.Faults.{Answers, field}
+use Rattle.call_file.specs.Loads.{opted, loaded, load_within, puts}
+use Rattle.call_file.proofs.Loading.{loads, opted_keyed, same_field}
+use Rattle.call_file.proofs.read.load_opted.Goals as goal
+
+pub returns : goal.returns
+returns c =
+    subst (λ (due : Result LedgerState CallFault). Answers due c.field.result)
+    (same_field (codes "opted") (load_within 16 (puts opted) c.args.ledger) (loaded 16 opted c.args.ledger) (view c.args.object.now) (loads opted opted_keyed 16 c.args.ledger))
+    c.field.ensures
