@@ -3,7 +3,7 @@ use Rattle.std.proofs.Common.{◌≡◌, ℕ, ◌+◌, ◌-◌, ◌<◌, ◌≤�
 use Rattle.std.specs.Prelude.{nat_lt, slice_index, if◌then◌else◌}
 use Rattle.std.specs.List.{All, flat_map}
 use Rattle.std.proofs.lemmas.Bool.Decides.{nat_tests}
-use Rattle.std.proofs.lemmas.List.{get_or_append_left, get_or-append-add, get_or_past}
+use Rattle.std.proofs.lemmas.List.{get_or_append_left, get_or-append-add, get_or-drop, get_or_past}
 use Rattle.std.proofs.lemmas.List.Elements.{All-nil, All-cons}
 use Rattle.avm_ops.specs.declared.instr.Instr.{Instr}
 use Rattle.avm_ops.specs.declared.instr.Imm.{Imm}
@@ -63,7 +63,7 @@ statements_of_bytes code h w =
     let ps = instructions code in
     let ts = targets ps in
     let piece : Placed → List Statement = λ p. label_at ts p.pc ++ statement_of p ∷ [] in
-    let all : AreBytes (flat_map bytes_at ps) = subst AreBytes (sym s.walk.bytes) (λ k. ?) in
+    let all : AreBytes (flat_map bytes_at ps) = subst AreBytes (sym s.walk.bytes) (λ k. let at = get_or-drop 1 code k 0 in let low = h (1 + k) in omega (arith, at, low)) in
     each_append IsOfBytes (flat_map piece ps) (label_at ts (length code))
     (each_flat_map IsOfBytes piece ps
         (each_weaker (λ p. IsOfBytes (statement_of p)) (λ p. Each IsOfBytes (piece p)) (λ p b. each_append IsOfBytes (label_at ts p.pc) (statement_of p ∷ []) (label_of ts p.pc) (b, tt)) ps (each_of ps all)))

@@ -4,6 +4,7 @@ use Rattle.std.specs.Prelude.{◌==◌, bytes_eq, not, nat_le, if◌then◌else�
 use Rattle.std.specs.List.{All, list_any, slice_split, flat_map}
 use Rattle.std.proofs.lemmas.Bool.Decides.{nat_tests}
 use Rattle.std.proofs.lemmas.Slice.Eq.{bytes_eq-Decides}
+use Rattle.std.proofs.lemmas.List.Elements.{All-nil, All-cons}
 use Rattle.std.proofs.lemmas.List.Folds.{list_any_none}
 use Rattle.std.proofs.lemmas.List.Splits.{slice_split_at, length-slice_split}
 use Rattle.teal_line.specs.declared.statement.Statement.{Statement}
@@ -25,6 +26,14 @@ is_feed b = b == 10
 record IsLine (line : List ℕ) : Type 0 where
   plain : All (λ b. is_feed b ≡ false) line
   ends : line ≡ without_return line
+
+no_feed : (t : List ℕ) → list_any is_feed t ≡ false → All (λ b. is_feed b ≡ false) t
+no_feed [] h = All-nil (λ b. is_feed b ≡ false)
+no_feed (b ∷ bs) h = by (is_feed b) refl (no_feed bs)
+  where
+    by : (v : Bool) → is_feed b ≡ v → (list_any is_feed bs ≡ false → All (λ b. is_feed b ≡ false) bs) → All (λ b. is_feed b ≡ false) (b ∷ bs)
+    by true e more = let h' : true ≡ false = rw e at h in cc
+    by false e more = let h' : list_any is_feed bs ≡ false = rw e at h in All-cons (λ b. is_feed b ≡ false) b bs e (more h')
 
 printable_is_line : (t : List ℕ) → All IsPrintable t → IsLine t
 printable_is_line t h = record {
@@ -94,7 +103,7 @@ unfolding words_of
 version_words_stand = refl
 
 version_is_line : IsLine version_line
-version_is_line = record { plain = ?; ends = refl }
+version_is_line = record { plain = no_feed version_line refl; ends = refl }
 
 -- what is printed for statements says these statements
 pub text_back : (ss : List Statement) → Each ReadsBack ss → statements_in 1 false (lines_of (line_of version_line ++ lines_text ss)) ≡ Ok ss

@@ -3,6 +3,7 @@
 
 mod decoding;
 mod fault;
+mod laws;
 mod line_words;
 mod names;
 mod numbering;
@@ -11,5 +12,6 @@ mod reading;
 mod targets;
 
 pub use fault::TealFault;
+pub use laws::printed_text_is_read_back;
 pub use printing::print;
 pub use reading::read;
