@@ -30,7 +30,7 @@ use Rattle.teal_line.specs.Words.{words_of, is_comment}
 use Rattle.teal_line.specs.Reading.{jump_kind, table_kind, Said, said_as, then_said, or_flaw, number, bytes, one, two, none, each, named_first, label_word, imm_said, labels_said, statement_in, by_row, by_opcode, before_colon, label_line, by_first, says}
 use Rattle.teal_line.specs.Printing.{imm_words, imm_words_in, imm_words_by, statement_words, statement_text, IsStatement}
 use Rattle.teal_line.specs.ReadsBack.{HasBytes, IsOfBytes, IsPrintable, ReadsBack}
-use Rattle.teal_line.proofs.Cutting.{is_word, is_plain, are_words, words_joined}
+use Rattle.teal_line.proofs.Joined.{is_word, is_plain, are_words, words_joined}
 use Rattle.teal_line.proofs.Numerals.{number_read, signed_read, bytes_read}
 use Rattle.teal_line.proofs.Printed.{decimal_is_word, signed_is_word, bytes_is_word, label_is_word, label_line_is_word}
 use Rattle.teal_line.proofs.Named.{HasName, named, field_read}

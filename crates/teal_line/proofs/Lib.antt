@@ -1,5 +1,11 @@
-pub mod Cutting
+pub mod Joined
+pub mod WordSteps
 pub mod Numerals
+pub mod NumberSteps
+pub mod QuotedSteps
+pub mod LabelSteps
+pub mod FormatSteps
+pub mod SpacedSteps
 pub mod Printed
 pub mod Named
 pub mod Law

@@ -10,7 +10,7 @@ use Rattle.avm_ops.specs.Immediate.{is_field, numbers_of}
 use Rattle.avm_ops.specs.Table.{table, row_in, row_of}
 use Rattle.teal_line.specs.Mnemonics.{mnemonics, name_in, number_in, name_of, opcode_named, field_name, field_named}
 use Rattle.teal_line.specs.Reading.{before_colon}
-use Rattle.teal_line.proofs.Cutting.{is_word}
+use Rattle.teal_line.proofs.Joined.{is_word}
 
 abbrev is_some_of : Option ℕ → ℕ → Bool
 is_some_of None n = false

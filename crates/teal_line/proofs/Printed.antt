@@ -14,7 +14,7 @@ use Rattle.hex.proofs.HexLemmas.{IsDigits-lower_digits}
 use Rattle.avm_ops.specs.Code.{AreBytes}
 use Rattle.teal_line.specs.Operands.{is_between, is_digit, is_label_byte, is_some_label, signed_word, bytes_word}
 use Rattle.teal_line.specs.Words.{is_comment}
-use Rattle.teal_line.proofs.Cutting.{is_plain, is_word}
+use Rattle.teal_line.proofs.Joined.{is_plain, is_word}
 use Rattle.teal_line.proofs.Numerals.{decimal_digits}
 
 -- visible, no quote and no slash

@@ -34,6 +34,10 @@ abbrev pub value_in : ℕ → (ℕ → Option ℕ) → ℕ → List ℕ → Opti
 value_in base digit value [] = Some value
 value_in base digit value (b ∷ bs) = option_and_then (λ d. value_in base digit (value * base + d) bs) (digit b)
 
+-- the value of a digit in base 16 or 10
+abbrev pub digit_in : ℕ → ℕ → Option ℕ
+digit_in base b = if base == 16 then hex_digit_value b else decimal_digit b
+
 -- digits, of which there is one at least
 abbrev pub some_value : ℕ → (ℕ → Option ℕ) → List ℕ → Option ℕ
 some_value base digit [] = None
@@ -108,6 +112,21 @@ abbrev mutual
   hex_escaped [] = None
   hex_escaped (h ∷ []) = None
   hex_escaped (h ∷ l ∷ bs) = byte_then (pair_value (hex_digit_value h) (hex_digit_value l)) (unquoted bs)
+
+-- the byte that stands at the front of a quoted text's rest, behind how many bytes it takes there
+abbrev pub behind_bytes : ℕ → Option ℕ → Option (ℕ × ℕ)
+behind_bytes n None = None
+behind_bytes n (Some b) = Some (n, b)
+
+abbrev pub escape_at : List ℕ → Option (ℕ × ℕ)
+escape_at [] = None
+escape_at (b ∷ []) = if b == 120 then None else behind_bytes 2 (escaped_byte b)
+escape_at (b ∷ h ∷ []) = if b == 120 then None else behind_bytes 2 (escaped_byte b)
+escape_at (b ∷ h ∷ l ∷ bs) = if b == 120 then behind_bytes 4 (pair_value (hex_digit_value h) (hex_digit_value l)) else behind_bytes 2 (escaped_byte b)
+
+abbrev pub byte_at : List ℕ → Option (ℕ × ℕ)
+byte_at [] = None
+byte_at (b ∷ bs) = if b == 92 then escape_at bs else Some (1, b)
 
 abbrev pub quoted_said : List ℕ → Option (List ℕ)
 quoted_said [] = None

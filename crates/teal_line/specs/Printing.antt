@@ -46,6 +46,11 @@ statement_words (Label name) = (name ++ 58 ∷ []) ∷ []
 statement_words (Jump kind name) = name_of (jump_opcode kind) ∷ name ∷ []
 statement_words (Table kind names) = name_of (table_opcode kind) ∷ names
 
+-- words, each behind a space
+abbrev pub spaced : List (List ℕ) → List ℕ
+spaced [] = []
+spaced (w ∷ ws) = 32 ∷ (w ++ spaced ws)
+
 -- the printed line without its line feed
 unfoldable pub statement_text : Statement → List ℕ
 statement_text s = join_with_byte 32 (statement_words s)

@@ -1,6 +1,7 @@
 use avm_asm::{JumpKind, TableKind};
 use avm_ops::Instr;
-use puya_base::{List, Name};
+use puya_base::{List, Memory, Name};
+use std::alloc::{AllocError, AllocFailed};
 
 /// Label names, in the order of their line.
 pub type Names = List<Name>;
@@ -28,4 +29,37 @@ pub enum Flaw {
     /// An immediate that is no byte string.
     Bytes,
     Memory,
+}
+
+impl From<Memory> for Flaw {
+    ghost use Rattle.std.specs.Prelude.{◌≡◌};
+    ghost use Rattle.teal_line.specs.declared.statement.Flaw.{Flaw};
+
+    ghost from_gives = { λ _ e. e ≡ Flaw.Memory };
+
+    fn from(_e: Memory) -> Flaw {
+        Flaw::Memory
+    }
+}
+
+impl From<AllocError> for Flaw {
+    ghost use Rattle.std.specs.Prelude.{◌≡◌};
+    ghost use Rattle.teal_line.specs.declared.statement.Flaw.{Flaw};
+
+    ghost from_gives = { λ _ e. e ≡ Flaw.Memory };
+
+    fn from(_e: AllocError) -> Flaw {
+        Flaw::Memory
+    }
+}
+
+impl<T: Drop> From<AllocFailed<T>> for Flaw {
+    ghost use Rattle.std.specs.Prelude.{◌≡◌};
+    ghost use Rattle.teal_line.specs.declared.statement.Flaw.{Flaw};
+
+    ghost from_gives = { λ _ e. e ≡ Flaw.Memory };
+
+    fn from(_e: AllocFailed<T>) -> Flaw {
+        Flaw::Memory
+    }
 }

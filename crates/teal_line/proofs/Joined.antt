@@ -73,7 +73,7 @@ words_blank n b bs blank = rw blank refl
 pub words_comment : (n b : ℕ) (bs : List ℕ) → is_blank b ≡ false → is_comment (b ∷ bs) ≡ true → words_in (suc n) (b ∷ bs) ≡ []
 words_comment n b bs blank comment = rw (blank, comment) refl
 
-words_none : (n : ℕ) → words_in n [] ≡ []
+pub words_none : (n : ℕ) → words_in n [] ≡ []
 words_none zero = refl
 words_none (suc n) = refl
 

@@ -1,0 +1,12 @@
+use Rattle.std.proofs.Common.{◌≡◌, ◌+◌, ◌-◌, ◌≤◌, false, length, drop}
+use Rattle.teal_line.specs.Words as spec
+use Rattle.teal_line.proofs.cutting.quoted_length.Given as goal
+
+abbrev pub invariant-loop-n : goal.invariant-loop-n
+invariant-loop-n l = record {
+  same : l.n + spec.quoted_length l.escaped (drop l.n l.bytes) ≡ spec.quoted_length false l.bytes;
+  within : l.n ≤ length l.bytes;
+}
+
+abbrev pub decreases-loop-n : goal.decreases-loop-n
+decreases-loop-n l = length l.bytes - l.n
