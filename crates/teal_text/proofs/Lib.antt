@@ -3,6 +3,7 @@ pub mod Walks
 pub mod TextSteps
 pub mod TextLines
 pub mod TextBytes
+pub mod Forms
 pub mod TextLaw
 pub mod LawChain
 pub mod LawNumbers

@@ -1,19 +1,10 @@
-ghost use Rattle.std.specs.Prelude.{◌≡◌, ◌∷◌, [], map, codes, IfOk};
-ghost use Rattle.teal_line.specs.Printing.{IsStatement};
+ghost use Rattle.std.specs.Prelude.{◌≡◌, ◌∷◌, [], map};
 ghost use Rattle.teal_line.specs.Reading.{Says, says};
 ghost use Rattle.teal_text.specs.Reading.{Reads, are_words, fault_at, is_known_pragma, later_line, said_at, version_words, words_say};
-ghost use Rattle.teal_text.specs.Steps.{IsNoneOrStatement};
 
 use crate::fault::TealFault;
 use std::alloc::Global;
-use teal_line::{Flaw, Statement};
-
-fn said(alloc: Global, first: &[u8], rest: &[&[u8]]) -> Result<Statement, Flaw>
-    ensures value { Says result (says first.now (map (λ w. w.now) rest.now)) }
-    ensures form { IfOk result IsStatement }
-{
-    Err(Flaw::Memory)
-}
+use teal_line::{Flaw, Statement, said};
 
 /// The fault of a flaw in the line of that number.
 fn fault_at(number: u32, flaw: Flaw) -> TealFault
@@ -60,8 +51,7 @@ fn statement_at(
     first: &[u8],
     rest: &[&[u8]],
 ) -> Result<Option<Statement>, TealFault>
-    ensures due { Reads result (said_at number (says first.now (map (λ w. w.now) rest.now))) }
-    ensures form { IfOk result IsNoneOrStatement }
+    ensures { Reads result (said_at number (says first.now (map (λ w. w.now) rest.now))) }
 {
     match said(alloc, first, rest) {
         Ok(statement) => Ok(Some(statement)),
@@ -76,8 +66,7 @@ fn later_line(
     first: &[u8],
     rest: &[&[u8]],
 ) -> Result<Option<Statement>, TealFault>
-    ensures due { Reads result (later_line number first.now (map (λ w. w.now) rest.now)) }
-    ensures form { IfOk result IsNoneOrStatement }
+    ensures { Reads result (later_line number first.now (map (λ w. w.now) rest.now)) }
 {
     if first != PRAGMA {
         statement_at(alloc, number, first, rest)
@@ -95,8 +84,7 @@ pub(crate) fn words_say(
     versioned: bool,
     words: &[&[u8]],
 ) -> Result<Option<Statement>, TealFault>
-    ensures due { Reads result (words_say number versioned (map (λ w. w.now) words.now)) }
-    ensures form { IfOk result IsNoneOrStatement }
+    ensures { Reads result (words_say number versioned (map (λ w. w.now) words.now)) }
 {
     match words {
         [] => Ok(None),

@@ -13,18 +13,12 @@ use avm_ops::{Imm, Instr};
 use avm_run::Program;
 use puya_base::{Blob, List, Memory, Name};
 use std::alloc::Global;
-use teal_line::{Names, Statement};
+use teal_line::{Names, Statement, push_statement};
 
-fn push_statement(text: &mut Blob, statement: &Statement) -> Result<(), Memory>
-    ensures { OnOk result (text.new ≡ text.old ++ statement_text statement.now) }
-{
-    Err(Memory)
-}
-
-fn push_line(text: &mut Blob, statement: &Statement) -> Result<(), Memory>
+fn push_line(alloc: Global, text: &mut Blob, statement: &Statement) -> Result<(), Memory>
     ensures { OnOk result (text.new ≡ text.old ++ line_of (statement_text statement.now)) }
 {
-    push_statement(text, statement)?;
+    push_statement(alloc, statement, text)?;
     text.push(b'\n')
 }
 
@@ -41,7 +35,7 @@ fn push_label(alloc: Global, text: &mut Blob, targets: &Places, place: usize) ->
     ensures { OnOk result (text.new ≡ text.old ++ lines_text (label_at targets.now place)) }
 {
     if targets.has(place) {
-        push_line(text, &Statement::Label(label_name(alloc, place)?))
+        push_line(alloc, text, &Statement::Label(label_name(alloc, place)?))
     } else {
         Ok(())
     }
@@ -112,7 +106,7 @@ fn push_placed(
 {
     push_label(alloc, text, targets, pc)?;
     let statement = statement_of(alloc, instr, next)?;
-    push_line(text, &statement)
+    push_line(alloc, text, &statement)
 }
 
 /// Adds the lines of all instructions of a program.

@@ -12,7 +12,7 @@ use crate::numbering::line_of;
 use avm_asm::Lines;
 use puya_base::{List, Memory};
 use std::alloc::Global;
-use teal_line::Statement;
+use teal_line::{Statement, words};
 
 /// What was read so far.
 #[derive(Drop)]
@@ -23,12 +23,6 @@ struct Reading {
     versioned: bool,
     names: Seen,
     lines: Lines,
-}
-
-fn words<'a>(alloc: Global, line: &'a [u8]) -> Result<List<&'a [u8]>, Memory>
-    ensures { IfOk result (λ ws. map (λ w. w.now) ws ≡ words_of line.now) }
-{
-    Err(Memory)
 }
 
 fn has_high_byte(line: &[u8]) -> bool
@@ -83,7 +77,8 @@ fn add(
 
 /// A line without the carriage return at its end.
 fn without_return(line: &[u8]) -> &[u8]
-    ensures { result.now ≡ without_return line.now }
+    ensures value { result.now ≡ without_return line.now }
+    ensures short { length result.now ≤ length line.now }
 {
     match line {
         [front @ .., last] => {
@@ -108,7 +103,8 @@ fn line_end(text: &[u8]) -> Option<usize>
 /// The first line, whose line feed stands at that place.
 fn line_at(text: &[u8], end: usize) -> &[u8]
     requires { end < length text.now }
-    ensures { result.now ≡ without_return (take end text.now) }
+    ensures value { result.now ≡ without_return (take end text.now) }
+    ensures short { length result.now ≤ length text.now }
 {
     without_return(&text[..end])
 }
@@ -123,6 +119,7 @@ fn text_behind(text: &[u8], end: usize) -> &[u8]
 
 /// Reads the next line.
 fn read_line(alloc: Global, reading: &mut Reading, line: &[u8]) -> Result<(), TealFault>
+    requires short { length line.now ≤ 1048576 }
     requires few { reading.old.number < 2 ^ 22 }
     requires room { IsRoomy reading.old.names reading.old.number }
     requires lines { AreLines reading.old.lines }
