@@ -1,3 +1,10 @@
+pub mod NameNumbers
+pub mod Walks
+pub mod TextSteps
+pub mod TextLines
+pub mod TextBytes
+pub mod Forms
+pub mod TextLaw
 pub mod LawChain
 pub mod LawNumbers
 pub mod LawLines

@@ -1,3 +1,5 @@
+use puya_base::Memory;
+
 /// Why a text is no TEAL, with the number of its line from 1; the first line that shows one, and there the first in this order.
 #[derive(Clone, Copy, Debug, PartialEq, Eq)]
 pub enum TealFault {
@@ -14,4 +16,15 @@ pub enum TealFault {
     /// An immediate that is no byte string.
     Bytes(u32),
     Memory,
+}
+
+impl From<Memory> for TealFault {
+    ghost use Rattle.std.specs.Prelude.{◌≡◌};
+    ghost use Rattle.teal_text.specs.declared.fault.TealFault.{TealFault};
+
+    ghost from_gives = { λ _ e. e ≡ TealFault.Memory };
+
+    fn from(_e: Memory) -> TealFault {
+        TealFault::Memory
+    }
 }
