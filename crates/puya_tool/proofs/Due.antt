@@ -1,6 +1,6 @@
 -- An answer is the one that is due, once its files are read.
-use Rattle.std.proofs.Common.{◌≡◌, ℕ, ◌≤◌, ◌<◌, ◌^◌, ◌⊎◌, inl, inr, List, length, Option, Some, None, Ok, subst}
-use Rattle.std.specs.Prelude.{IfSome}
+use Rattle.std.proofs.Common.{◌≡◌, ℕ, ◌≤◌, ◌<◌, ◌^◌, ◌⊎◌, inl, inr, List, length, true, false, Option, Some, None, Result, Ok, Err, subst}
+use Rattle.std.specs.Prelude.{IfOk, IfSome}
 use Rattle.std.specs.FinMap as map
 use Rattle.puya_base.specs.Files.{Held, max_length}
 use Rattle.avm_run.specs.Form.{IsWellFormed}
@@ -14,10 +14,15 @@ use Rattle.puya_tool.specs.Commands.{CallAnswers, CallEnds, HoldsProgram, HoldsS
 use Rattle.puya_tool.proofs.Clearing.{clears}
 use Rattle.puya_tool.proofs.Serving.{serves}
 
+-- what holds of an answer, where there is one
+pub on_ok : {A E : Type 0} (P Q : A → Type 0) (r : Result A E) → ((a : A) → P a → Q a) → IfOk r P → IfOk r Q
+on_ok P Q (Ok a) f h = f a h
+on_ok P Q (Err e) f h = tt
+
 -- a saved call ends as its call file's text says
 pub call_ends : (s : Sum) (file text : List ℕ) (saved : Saved) (a : Answer) → s.left < 2 ^ 64 → s.right < 2 ^ 64 → saved_of true text ≡ Ok saved
     → NamedEnds s file saved a → CallEnds s file text a
-call_ends s file text saved (BadCall name f) ha hb read ends = (ends.0, inr (saved, read, ends.1))
+call_ends s file text saved (BadCall name f) ha hb read ends = (ends.0, inr (saved, read, ends.1, ends.2))
 call_ends s file text saved (Stopped ran) ha hb read ends =
     (saved, read, ends.0, record { approval = program_of s; clear = clear_program; serves = serves s ha hb; clears = clears; ran_is = ends.1 })
 call_ends s file text saved WordsUnknown ha hb read ends = ends
