@@ -66,5 +66,5 @@ statements_of_bytes code h w =
     let all : AreBytes (flat_map bytes_at ps) = subst AreBytes (sym s.walk.bytes) (λ k. let at = get_or-drop 1 code k 0 in let low = h (1 + k) in omega (arith, at, low)) in
     each_append IsOfBytes (flat_map piece ps) (label_at ts (length code))
     (each_flat_map IsOfBytes piece ps
-        (each_weaker (λ p. IsOfBytes (statement_of p)) (λ p. Each IsOfBytes (piece p)) (λ p b. each_append IsOfBytes (label_at ts p.pc) (statement_of p ∷ []) (label_of ts p.pc) (b, tt)) ps (each_of ps all)))
+    (each_weaker (λ p. IsOfBytes (statement_of p)) (λ p. Each IsOfBytes (piece p)) (λ p b. each_append IsOfBytes (label_at ts p.pc) (statement_of p ∷ []) (label_of ts p.pc) (b, tt)) ps (each_of ps all)))
     (label_of ts (length code))

@@ -41,7 +41,8 @@ fn is_version(first: &[u8], rest: &[&[u8]]) -> bool
 fn is_known_pragma(first: &[u8], rest: &[&[u8]]) -> bool
     ensures { result ≡ is_known_pragma (first.now ∷ map (λ w. w.now) rest.now) }
 {
-    first == PRAGMA && (are_two(rest, b"typetrack", b"true") || are_two(rest, b"typetrack", b"false"))
+    first == PRAGMA
+        && (are_two(rest, b"typetrack", b"true") || are_two(rest, b"typetrack", b"false"))
 }
 
 /// What a line says that is no pragma.

@@ -38,11 +38,7 @@ fn is_ascii(line: &[u8]) -> bool
 }
 
 /// The words of a line of ASCII.
-fn words_at<'a>(
-    alloc: Global,
-    number: u32,
-    line: &'a [u8],
-) -> Result<List<&'a [u8]>, TealFault>
+fn words_at<'a>(alloc: Global, number: u32, line: &'a [u8]) -> Result<List<&'a [u8]>, TealFault>
     ensures ok { IfOk result (λ ws. (is_ascii line.now ≡ true) × (map (λ w. w.now) ws ≡ words_of line.now)) }
     ensures err { (versioned : Bool) → FaultsAs result (line_says number versioned line.now) }
 {
@@ -81,13 +77,7 @@ fn without_return(line: &[u8]) -> &[u8]
     ensures short { length result.now ≤ length line.now }
 {
     match line {
-        [front @ .., last] => {
-            if *last == b'\r' {
-                front
-            } else {
-                line
-            }
-        }
+        [front @ .., last] => { if *last == b'\r' { front } else { line } }
         [] => line,
     }
 }
