@@ -1,6 +1,6 @@
 -- What the words of a line say is a statement of its form, where no word is too long to be counted.
-use Rattle.std.proofs.Common.{◌≡◌, ℕ, ℤ, zero, suc, pos, negsuc, ◌+◌, ◌*◌, ◌-◌, ◌^◌, ◌<◌, ◌≤◌, List, [], ◌∷◌, ◌++◌, length, map, take, drop, get_or, Bool, true, false, Ok, Err, Result, refl, sym, ap, ◌∙◌, arith, subst, IsTrue, FitsSigned, rules, length-take, length-drop}
-use Rattle.std.specs.Prelude.{Option, Some, None, option_map, option_and_then, ◌==◌, ◌||◌, ◌&&◌, if◌then◌else◌, bytes_eq, nat_lt, nat_le, neg_ℤ, not, ◌%◌, codes}
+use Rattle.std.proofs.Common.{◌≡◌, ℕ, ℤ, zero, suc, pos, ◌+◌, ◌^◌, ◌<◌, ◌≤◌, List, [], ◌∷◌, length, map, take, drop, Bool, true, false, Ok, Err, Result, refl, sym, ap, arith, subst, IsTrue, FitsSigned, rules, length-take, length-drop}
+use Rattle.std.specs.Prelude.{Option, Some, None, option_map, ◌==◌, ◌||◌, ◌&&◌, if◌then◌else◌, bytes_eq, nat_lt, neg_ℤ, not, ◌%◌, codes}
 use Rattle.std.specs.Int.{w8}
 use Rattle.std.specs.List.{All, list_all, list_any}
 use Rattle.std.proofs.lemmas.Bool.Decides.{nat_tests}
@@ -8,7 +8,6 @@ use Rattle.std.proofs.lemmas.List.Elements.{All-nil, All-cons}
 use Rattle.hex.specs.Hex.{◌>>=◌, decode_of, decode_pairs, hex_digit_value, pair_value as hex_pair}
 use Rattle.hex.specs.declared.error.FromHexError.{FromHexError}
 use Rattle.hex.specs.declared.error.FromHexError.TheVariants.{OddLength}
-use Rattle.avm_ops.specs.declared.instr.Instr.{Instr}
 use Rattle.avm_ops.specs.declared.instr.Imm.{Imm}
 use Rattle.avm_ops.specs.declared.instr.Imm.TheVariants as imm
 use Rattle.avm_ops.specs.declared.rows.Format.{Format}
@@ -17,7 +16,7 @@ use Rattle.avm_ops.specs.declared.rows.Fields.{Fields}
 use Rattle.avm_ops.specs.declared.rows.Fields.TheVariants as fields
 use Rattle.avm_ops.specs.declared.rows.Row.{Row}
 use Rattle.avm_ops.specs.Table.{row_of}
-use Rattle.avm_ops.specs.Immediate.{IsOf, IsCountable, is_field, numbers_of}
+use Rattle.avm_ops.specs.Immediate.{IsOf, IsCountable, is_field}
 use Rattle.avm_asm.specs.Listing.{IsNoBranch}
 use Rattle.teal_line.specs.declared.statement.Statement.{Statement}
 use Rattle.teal_line.specs.declared.statement.Statement.TheVariants.{Op, Label, Jump, Table}

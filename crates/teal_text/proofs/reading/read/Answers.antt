@@ -1,5 +1,5 @@
-use Rattle.std.proofs.Common.{◌≡◌, ◌∷◌, [], ◌≤◌, ◌+◌, length, drop, length-drop, sym, ap, subst, ◌∙◌, arith, Err}
-use Rattle.teal_text.specs.Reading.{lines_of, without_return}
+use Rattle.std.proofs.Common.{[], ◌+◌, length, drop, length-drop, ap, arith}
+use Rattle.teal_text.specs.Reading.{lines_of}
 use Rattle.teal_text.proofs.TextSteps.{read_all, read_more, read_fault, read_whole, read_unversioned, line_more, line_last, read_passed}
 use Rattle.teal_text.proofs.reading.read.Goals as goal
 

@@ -1,6 +1,5 @@
 use Rattle.std.proofs.Common.{sym, ap, ◌∙◌}
 use Rattle.std.specs.Prelude.{map}
-use Rattle.teal_text.specs.Reading.{Reads}
 use Rattle.teal_text.proofs.Forms.{words_form}
 use Rattle.teal_text.proofs.TextSteps.{by_words, adds_said, passed_on}
 use Rattle.teal_text.proofs.reading.read_line.Goals as goal

@@ -1,4 +1,3 @@
-use Rattle.std.proofs.Common.{sym, ◌∙◌}
 use Rattle.teal_text.proofs.TextSteps.{return_taken, no_return}
 use Rattle.teal_text.proofs.reading.without_return.Goals as goal
 
