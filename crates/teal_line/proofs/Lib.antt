@@ -8,4 +8,5 @@ pub mod FormatSteps
 pub mod SpacedSteps
 pub mod Printed
 pub mod Named
+pub mod SaidForms
 pub mod Law

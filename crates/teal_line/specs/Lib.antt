@@ -3,6 +3,7 @@ pub mod Mnemonics
 pub mod Operands
 pub mod Reading
 pub mod Printing
+pub mod Counted
 pub mod ReadsBack
 pub use Rattle.avm_asm.specs.Listing
 pub use Rattle.avm_ops.specs.Code

@@ -1,7 +1,8 @@
 //! Byte strings.
 
-ghost use Rattle.std.specs.Prelude.{◌≡◌, ◌≤◌, ◌+◌, Some, IfSome, Ok, Err, length};
+ghost use Rattle.std.specs.Prelude.{◌≡◌, ◌≤◌, ◌+◌, IfSome, IfOk, length};
 ghost use Rattle.teal_line.specs.Operands as spec;
+ghost use Rattle.teal_line.specs.Counted.{IsCountedText};
 ghost use Rattle.teal_line.specs.Reading.{Says, or_flaw, bytes as bytes_said};
 ghost use Rattle.hex.specs.Hex.{hex_digit_value, decode_of};
 
@@ -91,9 +92,9 @@ fn digits(alloc: Global, text: &[u8]) -> Result<Blob, Flaw>
     }
 }
 
-/// The bytes that a word says: `0x` and an even number of hexadecimal digits, or a quoted text.
+/// The bytes of a word in either form.
 #[tactic(auto, unfolding(crate::specs::Operands::bytes_said))]
-pub(crate) fn bytes(alloc: Global, word: &[u8]) -> Result<Blob, Flaw>
+fn in_form(alloc: Global, word: &[u8]) -> Result<Blob, Flaw>
     ensures { Says result (bytes_said word.now) }
 {
     match word {
@@ -101,4 +102,14 @@ pub(crate) fn bytes(alloc: Global, word: &[u8]) -> Result<Blob, Flaw>
         [b'"', rest @ ..] => unquoted(alloc, rest),
         _ => Err(Flaw::Bytes),
     }
+}
+
+/// The bytes that a word says: `0x` and an even number of hexadecimal digits, or a quoted text.
+pub(crate) fn bytes(alloc: Global, word: &[u8]) -> Result<Blob, Flaw>
+    ensures value { Says result (bytes_said word.now) }
+    ensures counted { IfOk result IsCountedText }
+{
+    let bytes = in_form(alloc, word)?;
+    let _count = bytes.len();
+    Ok(bytes)
 }

@@ -11,6 +11,8 @@ mod operands;
 mod printing;
 mod reading;
 mod statement;
+#[cfg(test)]
+mod tests;
 
 pub use cutting::words;
 pub use laws::statements_read_back;

@@ -127,12 +127,7 @@ fn push_field_and_byte(
 }
 
 /// The immediates of a form, fields by their names.
-fn push_immediates(
-    alloc: Global,
-    format: Format,
-    imm: &Imm,
-    into: &mut Blob,
-) -> Result<(), Memory>
+fn push_immediates(alloc: Global, format: Format, imm: &Imm, into: &mut Blob) -> Result<(), Memory>
     ensures { OnOk result (into.new ≡ into.old ++ spaced (imm_words_in format imm.now)) }
 {
     match format {

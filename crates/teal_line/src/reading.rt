@@ -1,6 +1,8 @@
 //! What the words of a line say.
 
-ghost use Rattle.std.specs.Prelude.{◌≡◌, map};
+ghost use Rattle.std.specs.Prelude.{◌≡◌, map, IfOk};
+ghost use Rattle.teal_line.specs.Counted.{IsCountedStatement};
+ghost use Rattle.teal_line.specs.Printing.{IsStatement};
 ghost use Rattle.teal_line.specs.Reading.{Says, says, said_as, imm_said, statement_in, label_line as label_line_said};
 ghost use Rattle.teal_line.specs.Reading as spec;
 ghost use Rattle.avm_ops.specs.declared.instr.Instr.{Instr};
@@ -35,7 +37,8 @@ fn table_kind(op: u8) -> TableKind
 }
 
 fn jump(alloc: Global, op: u8, words: &[&[u8]]) -> Result<Statement, Flaw>
-    ensures { Says result (statement_in op Format.Jump (map (λ w. w.now) words.now)) }
+    ensures value { Says result (statement_in op Format.Jump (map (λ w. w.now) words.now)) }
+    ensures counted { IfOk result IsCountedStatement }
 {
     let [word, rest @ ..] = words else {
         return Err(Flaw::Count);
@@ -49,7 +52,8 @@ fn jump(alloc: Global, op: u8, words: &[&[u8]]) -> Result<Statement, Flaw>
 }
 
 fn table(alloc: Global, op: u8, words: &[&[u8]]) -> Result<Statement, Flaw>
-    ensures { Says result (statement_in op Format.Jumps (map (λ w. w.now) words.now)) }
+    ensures value { Says result (statement_in op Format.Jumps (map (λ w. w.now) words.now)) }
+    ensures counted { IfOk result IsCountedStatement }
 {
     if !are_labels(words) {
         return Err(Flaw::Word);
@@ -60,26 +64,18 @@ fn table(alloc: Global, op: u8, words: &[&[u8]]) -> Result<Statement, Flaw>
     Ok(Statement::Table(table_kind(op), names(alloc, words)?))
 }
 
-fn operation(
-    alloc: Global,
-    op: u8,
-    format: Format,
-    words: &[&[u8]],
-) -> Result<Statement, Flaw>
-    ensures { Says result (said_as (λ i. Statement.Op (record { op = op; imm = i })) (imm_said format (map (λ w. w.now) words.now))) }
+fn operation(alloc: Global, op: u8, format: Format, words: &[&[u8]]) -> Result<Statement, Flaw>
+    ensures value { Says result (said_as (λ i. Statement.Op (record { op = op; imm = i })) (imm_said format (map (λ w. w.now) words.now))) }
+    ensures counted { IfOk result IsCountedStatement }
 {
     let imm = immediates(alloc, format, words)?;
     Ok(Statement::Op(Instr { op, imm }))
 }
 
 /// What an instruction of a form says with these words behind its name.
-fn statement(
-    alloc: Global,
-    op: u8,
-    format: Format,
-    words: &[&[u8]],
-) -> Result<Statement, Flaw>
-    ensures { Says result (statement_in op format (map (λ w. w.now) words.now)) }
+fn statement(alloc: Global, op: u8, format: Format, words: &[&[u8]]) -> Result<Statement, Flaw>
+    ensures value { Says result (statement_in op format (map (λ w. w.now) words.now)) }
+    ensures counted { IfOk result IsCountedStatement }
 {
     match format {
         Format::Jump => jump(alloc, op, words),
@@ -89,7 +85,8 @@ fn statement(
 }
 
 fn label_line(alloc: Global, name: &[u8], words: &[&[u8]]) -> Result<Statement, Flaw>
-    ensures { Says result (label_line_said name.now (map (λ w. w.now) words.now)) }
+    ensures value { Says result (label_line_said name.now (map (λ w. w.now) words.now)) }
+    ensures counted { IfOk result IsCountedStatement }
 {
     if !is_some_label(name) {
         return Err(Flaw::Word);
@@ -100,14 +97,10 @@ fn label_line(alloc: Global, name: &[u8], words: &[&[u8]]) -> Result<Statement, 
     Ok(Statement::Label(label_name(alloc, name)?))
 }
 
-/// What a line says whose first word is this and whose further words are these: an instruction, a label or a branch.
-///
-/// # Errors
-///
-/// The first flaw of the line, in the order of `Flaw`'s variants, or want of memory.
 #[tactic(auto, unfolding(crate::specs::Reading::says))]
-pub fn said(alloc: Global, first: &[u8], rest: &[&[u8]]) -> Result<Statement, Flaw>
-    ensures { Says result (says first.now (map (λ w. w.now) rest.now)) }
+fn line(alloc: Global, first: &[u8], rest: &[&[u8]]) -> Result<Statement, Flaw>
+    ensures value { Says result (says first.now (map (λ w. w.now) rest.now)) }
+    ensures counted { IfOk result IsCountedStatement }
 {
     if let Some(name) = before_colon(first) {
         return label_line(alloc, name, rest);
@@ -119,4 +112,16 @@ pub fn said(alloc: Global, first: &[u8], rest: &[&[u8]]) -> Result<Statement, Fl
         return Err(Flaw::Word);
     };
     statement(alloc, op, entry.format, rest)
+}
+
+/// What a line says whose first word is this and whose further words are these: an instruction, a label or a branch.
+///
+/// # Errors
+///
+/// The first flaw of the line, in the order of `Flaw`'s variants, or want of memory.
+pub fn said(alloc: Global, first: &[u8], rest: &[&[u8]]) -> Result<Statement, Flaw>
+    ensures value { Says result (says first.now (map (λ w. w.now) rest.now)) }
+    ensures form { IfOk result IsStatement }
+{
+    line(alloc, first, rest)
 }

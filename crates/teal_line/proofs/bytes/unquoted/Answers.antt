@@ -21,8 +21,8 @@ loop-at-preserved c =
     let pushed = c.in_ok-push-in-Some.ensures.ok in
     record {
       same = ap (λ bytes. option_map (λ rest. bytes ++ rest) (unquoted (drop (at + count) text))) pushed
-      ∙ quoted_more c.loop-at.bytes text at count c.in-Some.b c.loop-at-test.true c.if-text-at-eq34.false (sym (rw whole at c.in-Some.ensures.value))
-      ∙ c.loop-at.invariant.same;
+          ∙ quoted_more c.loop-at.bytes text at count c.in-Some.b c.loop-at-test.true c.if-text-at-eq34.false (sym (rw whole at c.in-Some.ensures.value))
+          ∙ c.loop-at.invariant.same;
       within = omega (arith, within, length-drop at text);
     }
 

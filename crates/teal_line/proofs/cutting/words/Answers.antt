@@ -32,7 +32,7 @@ loop-at-preserved c =
     ap (map (λ w. w.now)) c.in_ok-push.ensures.ok ∙ map-append (λ w. w.now) c.loop-at.words _ ∙ ap (λ k. words ++ take k (drop at line) ∷ []) back in
     record {
       same = ap (λ ws. ws ++ words_of (drop (at + n) line)) pushed
-      ∙ word_step words line at n c.loop-at-test.true (sym c.is_blank.ensures ∙ c.if-is_blank.false) (sym (rw whole at c.is_comment.ensures) ∙ c.if-is_comment.false) (rw whole at c.word_length.ensures.value) c.loop-at.invariant.same;
+          ∙ word_step words line at n c.loop-at-test.true (sym c.is_blank.ensures ∙ c.if-is_blank.false) (sym (rw whole at c.is_comment.ensures) ∙ c.if-is_comment.false) (rw whole at c.word_length.ensures.value) c.loop-at.invariant.same;
       within = omega (arith, within, length-drop at line);
     }
 
