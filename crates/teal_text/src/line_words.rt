@@ -1,6 +1,7 @@
-ghost use Rattle.std.specs.Prelude.{◌≡◌, ◌∷◌, [], map};
+ghost use Rattle.std.specs.Prelude.{◌≡◌, ◌∷◌, [], map, IfOk};
 ghost use Rattle.teal_line.specs.Reading.{Says, says};
 ghost use Rattle.teal_text.specs.Reading.{Reads, are_words, fault_at, is_known_pragma, later_line, said_at, version_words, words_say};
+ghost use Rattle.teal_text.specs.Steps.{IsNoneOrStatement};
 
 use crate::fault::TealFault;
 use std::alloc::Global;
@@ -52,7 +53,8 @@ fn statement_at(
     first: &[u8],
     rest: &[&[u8]],
 ) -> Result<Option<Statement>, TealFault>
-    ensures { Reads result (said_at number (says first.now (map (λ w. w.now) rest.now))) }
+    ensures due { Reads result (said_at number (says first.now (map (λ w. w.now) rest.now))) }
+    ensures form { IfOk result IsNoneOrStatement }
 {
     match said(alloc, first, rest) {
         Ok(statement) => Ok(Some(statement)),
@@ -67,7 +69,8 @@ fn later_line(
     first: &[u8],
     rest: &[&[u8]],
 ) -> Result<Option<Statement>, TealFault>
-    ensures { Reads result (later_line number first.now (map (λ w. w.now) rest.now)) }
+    ensures due { Reads result (later_line number first.now (map (λ w. w.now) rest.now)) }
+    ensures form { IfOk result IsNoneOrStatement }
 {
     if first != PRAGMA {
         statement_at(alloc, number, first, rest)
@@ -85,7 +88,8 @@ pub(crate) fn words_say(
     versioned: bool,
     words: &[&[u8]],
 ) -> Result<Option<Statement>, TealFault>
-    ensures { Reads result (words_say number versioned (map (λ w. w.now) words.now)) }
+    ensures due { Reads result (words_say number versioned (map (λ w. w.now) words.now)) }
+    ensures form { IfOk result IsNoneOrStatement }
 {
     match words {
         [] => Ok(None),

@@ -14,7 +14,7 @@ loop-end-preserved c =
       reads =
           read_more _ c.line_at.result.now _ (lines_of c.text_behind-rest.result.now) c.loop-end.reading.number c.read_line.new.reading.number c.loop-end.reading.versioned
           c.read_line.new.reading.versioned c.loop-end.reading.names c.read_line.new.reading.names c.loop-end.reading.lines c.read_line.new.reading.lines c.loop-end.invariant.reads
-          (rw (c.line_at.ensures.value, b) (line_more c.loop-end.rest.now c.in-Some.end c.in-Some.ensures.place))
+          (rw (c.line_at.ensures, b) (line_more c.loop-end.rest.now c.in-Some.end c.in-Some.ensures.place))
           e.adds e.number e.versioned e.room e.lines;
       counted = omega (arith, e.number, ap length b, length-drop (c.in-Some.end + 1) c.loop-end.rest.now, c.in-Some.ensures.within, c.loop-end.invariant.counted);
     }
@@ -25,7 +25,7 @@ returns-in_err-read_line-clause-due c =
     read_passed _ c.in_err-read_line.field-0.0 _ f.0 f.1
     (read_fault c.args.text.now c.line_at.result.now _ (lines_of (drop (c.in-Some.end + 1) c.loop-end.rest.now)) c.loop-end.reading.number c.loop-end.reading.versioned
     c.loop-end.reading.names c.loop-end.reading.lines c.in_err-read_line.field-0.0 c.loop-end.invariant.reads
-    (rw c.line_at.ensures.value (line_more c.loop-end.rest.now c.in-Some.end c.in-Some.ensures.place)) c.in_err-read_line.ensures.err)
+    (rw c.line_at.ensures (line_more c.loop-end.rest.now c.in-Some.end c.in-Some.ensures.place)) c.in_err-read_line.ensures.err)
 
 pub returns-in_err-read_line-2-clause-due : goal.returns-in_err-read_line-2-clause-due
 returns-in_err-read_line-2-clause-due c =
