@@ -1,5 +1,5 @@
 -- Labels: their bytes, and the colon behind them.
-use Rattle.std.proofs.Common.{◌≡◌, ℕ, zero, suc, ◌+◌, ◌-◌, ◌≤◌, ◌<◌, Bool, true, false, ◌&&◌, List, [], ◌∷◌, length, take, get_or, map, Option, Some, None, refl, arith, ap, sym, ◌∙◌, IsTrue, ◌≢◌}
+use Rattle.std.proofs.Common.{◌≡◌, ℕ, zero, suc, ◌-◌, ◌<◌, Bool, true, false, List, [], ◌∷◌, length, take, get_or, map, Option, Some, None, refl, arith, ap, sym, ◌∙◌, IsTrue, ◌≢◌}
 use Rattle.std.specs.Prelude.{◌==◌, if◌then◌else◌, IsAscii}
 use Rattle.std.specs.Str.{IsUtf8}
 use Rattle.std.specs.List.{list_all}
@@ -7,8 +7,6 @@ use Rattle.std.proofs.lemmas.Bool.Decides.{nat_tests}
 use Rattle.std.proofs.lemmas.Bool.{and_parts, eq-eqb, ne_eqb}
 use Rattle.std.proofs.lemmas.Str.{IsUtf8-from_ascii}
 use Rattle.std.proofs.lemmas.Str.Ascii.{IsAscii-nil, IsAscii-cons}
-use Rattle.avm_ops.specs.declared.rows.Format.{Format}
-use Rattle.avm_ops.specs.declared.rows.Format.TheVariants as format
 use Rattle.teal_line.specs.Operands.{is_label_byte, is_some_label}
 use Rattle.teal_line.specs.Reading.{before_colon}
 

@@ -1,19 +1,18 @@
 -- What is printed for a statement is read as that statement.
-use Rattle.std.proofs.Common.{◌≡◌, ℕ, ℤ, ◌+◌, ◌≤◌, ◌<◌, ◌^◌, Bool, true, false, ◌&&◌, not, List, [], ◌∷◌, ◌++◌, length, map, Option, Some, None, Result, Ok, Err, refl, arith, ap, sym, ◌∙◌, IsTrue, length-append}
-use Rattle.std.specs.Prelude.{◌≢◌, ◌==◌, nat_le, nat_lt, if◌then◌else◌, bytes_eq, codes, pos, negsuc}
+use Rattle.std.proofs.Common.{◌≡◌, ℕ, ℤ, ◌≤◌, ◌<◌, ◌^◌, Bool, true, false, ◌&&◌, not, List, [], ◌∷◌, ◌++◌, length, map, Option, Some, None, Ok, Err, refl, arith, ap, sym, ◌∙◌}
+use Rattle.std.specs.Prelude.{◌≢◌, ◌==◌, nat_lt, if◌then◌else◌, bytes_eq, codes}
 use Rattle.std.specs.List.{All, list_all, join_with_byte}
 use Rattle.std.specs.Fmt.{decimal}
 use Rattle.std.proofs.lemmas.Bool.Decides.{nat_tests}
 use Rattle.std.proofs.lemmas.Bool.{and_parts, and_from}
 use Rattle.std.proofs.lemmas.List.Elements.{All-head, All-tail, All-cons, All-nil, All-append}
 use Rattle.std.proofs.lemmas.List.Sums.{list_all-from_AllPass}
-use Rattle.avm_ops.specs.declared.instr.Instr.{Instr}
 use Rattle.avm_ops.specs.declared.instr.Imm.{Imm}
 use Rattle.avm_ops.specs.declared.instr.Imm.TheVariants as imm
 use Rattle.avm_ops.specs.declared.rows.Row.{Row}
 use Rattle.avm_ops.specs.declared.rows.Format.{Format}
 use Rattle.avm_ops.specs.declared.rows.Format.TheVariants as format
-use Rattle.avm_ops.specs.Code.{AreBytes, HasForm, HasFormOf}
+use Rattle.avm_ops.specs.Code.{AreBytes, HasFormOf}
 use Rattle.avm_ops.specs.Immediate.{IsOf}
 use Rattle.avm_ops.specs.Table.{table, row_of}
 use Rattle.avm_asm.specs.declared.line.JumpKind.{JumpKind}
@@ -24,11 +23,11 @@ use Rattle.avm_asm.specs.Listing.{jump_opcode, table_opcode, IsNoBranch}
 use Rattle.teal_line.specs.declared.statement.Statement.{Statement}
 use Rattle.teal_line.specs.declared.statement.Statement.TheVariants.{Op, Label, Jump, Table}
 use Rattle.teal_line.specs.declared.statement.Flaw.TheVariants as flaw
-use Rattle.teal_line.specs.Mnemonics.{name_of, opcode_named, field_name, field_named}
-use Rattle.teal_line.specs.Operands.{is_some_label, is_label_byte, is_between, signed_word, bytes_word, bytes_said, signed_said, number_said}
+use Rattle.teal_line.specs.Mnemonics.{name_of, field_name}
+use Rattle.teal_line.specs.Operands.{is_some_label, is_label_byte, is_between, signed_word, bytes_word}
 use Rattle.teal_line.specs.Words.{words_of, is_comment}
-use Rattle.teal_line.specs.Reading.{jump_kind, table_kind, Said, said_as, then_said, or_flaw, number, bytes, one, two, none, each, named_first, label_word, imm_said, labels_said, statement_in, by_row, by_opcode, before_colon, label_line, by_first, says}
-use Rattle.teal_line.specs.Printing.{imm_words, imm_words_in, imm_words_by, statement_words, statement_text, IsStatement}
+use Rattle.teal_line.specs.Reading.{jump_kind, table_kind, Said, said_as, then_said, or_flaw, number, bytes, one, none, each, imm_said, statement_in, by_row, by_opcode, before_colon, by_first, says}
+use Rattle.teal_line.specs.Printing.{imm_words_in, imm_words_by, statement_words, statement_text, IsStatement}
 use Rattle.teal_line.specs.ReadsBack.{HasBytes, IsOfBytes, IsPrintable, ReadsBack}
 use Rattle.teal_line.proofs.Joined.{is_word, is_plain, are_words, words_joined}
 use Rattle.teal_line.proofs.Numerals.{number_read, signed_read, bytes_read}

@@ -1,5 +1,5 @@
 -- Each opcode and each field is read by its name.
-use Rattle.std.proofs.Common.{◌≡◌, ℕ, Bool, true, false, ◌&&◌, ◌||◌, not, List, [], ◌∷◌, Option, Some, None, refl, arith, ap, sym, ◌∙◌, IsTrue}
+use Rattle.std.proofs.Common.{◌≡◌, ℕ, Bool, true, false, ◌&&◌, ◌||◌, not, List, [], ◌∷◌, Option, Some, None, refl, ap, sym, ◌∙◌, IsTrue}
 use Rattle.std.specs.Prelude.{◌==◌, if◌then◌else◌, bytes_eq, codes, is_none}
 use Rattle.std.specs.List.{list_all, list_any}
 use Rattle.std.proofs.lemmas.Bool.{and_parts, eqb-true}
@@ -8,7 +8,7 @@ use Rattle.avm_ops.specs.declared.rows.Fields.{Fields}
 use Rattle.avm_ops.specs.declared.rows.Fields.TheVariants as fields
 use Rattle.avm_ops.specs.Immediate.{is_field, numbers_of}
 use Rattle.avm_ops.specs.Table.{table, row_in, row_of}
-use Rattle.teal_line.specs.Mnemonics.{mnemonics, name_in, number_in, name_of, opcode_named, field_name, field_named}
+use Rattle.teal_line.specs.Mnemonics.{mnemonics, name_of, opcode_named, field_name, field_named}
 use Rattle.teal_line.specs.Reading.{before_colon}
 use Rattle.teal_line.proofs.Joined.{is_word}
 

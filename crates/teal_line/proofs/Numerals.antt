@@ -1,6 +1,6 @@
 -- Printed numbers and byte strings are read as they were.
-use Rattle.std.proofs.Common.{◌≡◌, ℕ, ℤ, zero, suc, ◌+◌, ◌-◌, ◌*◌, ◌/◌, ◌%◌, ◌^◌, ◌≤◌, ◌<◌, Bool, true, false, ◌&&◌, not, List, [], ◌∷◌, ◌++◌, length, get_or, take, drop, Option, Some, None, refl, arith, ap, sym, ◌∙◌, subst, IsTrue, append_assoc, append-nil, add-one}
-use Rattle.std.specs.Prelude.{◌==◌, nat_le, if◌then◌else◌, pos, negsuc, neg_ℤ, option_and_then, option_map, Result, Ok, Err}
+use Rattle.std.proofs.Common.{◌≡◌, ℕ, ℤ, zero, suc, ◌+◌, ◌*◌, ◌/◌, ◌%◌, ◌^◌, ◌≤◌, ◌<◌, true, false, ◌&&◌, List, [], ◌∷◌, ◌++◌, length, get_or, Some, None, refl, arith, ap, sym, ◌∙◌, append_assoc, append-nil, add-one}
+use Rattle.std.specs.Prelude.{◌==◌, pos, negsuc, neg_ℤ, option_and_then, option_map}
 use Rattle.std.specs.List.{list_all}
 use Rattle.std.specs.Fmt.{decimal}
 use Rattle.std.specs.Int.RustNames.{FitsSigned}
@@ -9,10 +9,9 @@ use Rattle.std.proofs.lemmas.Bool.Decides.{nat_tests}
 use Rattle.std.proofs.lemmas.Bool.{and_parts, and_right, and_from}
 use Rattle.std.proofs.lemmas.List.Folds.{list_all-append}
 use Rattle.std.proofs.lemmas.Fmt.{decimal_by_steps, decimal_digit as decimal_of_digit, decimal_nonempty, first_decimal}
-use Rattle.hex.specs.Hex.{encode_lower, encode_with, lower_digits, decode_of, hex_digit_value}
-use Rattle.hex.proofs.HexLemmas.{decode_of-encode_lower, IsDigits-lower_digits}
+use Rattle.hex.proofs.HexLemmas.{decode_of-encode_lower}
 use Rattle.avm_ops.specs.Code.{AreBytes}
-use Rattle.teal_line.specs.Operands.{is_between, is_digit, behind_0x, decimal_digit, value_in, some_value, is_padded, decimal_value, whole_value, below, number_said, signed_said, digits_said, bytes_by, bytes_said, signed_word, bytes_word}
+use Rattle.teal_line.specs.Operands.{is_digit, behind_0x, decimal_digit, value_in, some_value, is_padded, decimal_value, whole_value, below, number_said, signed_said, digits_said, bytes_said, signed_word, bytes_word}
 
 digit_value : (n : ℕ) → n < 10 → decimal_digit (48 + n) ≡ Some n
 digit_value n h = grind (arith, nat_tests)

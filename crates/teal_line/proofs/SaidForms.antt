@@ -1,6 +1,6 @@
 -- What words say has the form of its instruction.
-use Rattle.std.proofs.Common.{◌≡◌, ℕ, ℤ, zero, suc, ◌+◌, ◌≤◌, ◌<◌, ◌^◌, Bool, true, false, not, List, [], ◌∷◌, length, map, ◌||◌, Option, Some, None, Result, Ok, Err, refl, arith, ap, sym, ◌∙◌, subst, IsTrue}
-use Rattle.std.specs.Prelude.{◌==◌, nat_lt, if◌then◌else◌, pos, negsuc, neg_ℤ, option_map, bytes_eq, IfOk}
+use Rattle.std.proofs.Common.{◌≡◌, ℕ, ℤ, zero, suc, ◌<◌, ◌^◌, Bool, true, false, not, List, [], ◌∷◌, length, map, ◌||◌, Option, Some, None, Ok, Err, refl, arith, ap, sym, subst, IsTrue}
+use Rattle.std.specs.Prelude.{◌==◌, nat_lt, if◌then◌else◌, pos, neg_ℤ, option_map, bytes_eq, IfOk}
 use Rattle.std.specs.List.{All, list_all, list_any}
 use Rattle.std.specs.Int.RustNames.{FitsSigned}
 use Rattle.std.specs.Int.{w8}
@@ -8,7 +8,6 @@ use Rattle.std.proofs.lemmas.Bool.Decides.{nat_tests}
 use Rattle.std.proofs.lemmas.Bool.{eq-eqb, or_left, or_right}
 use Rattle.std.proofs.lemmas.List.Elements.{All-cons, All-nil}
 use Rattle.std.proofs.lemmas.List.Sums.{AllPass-from_list_all}
-use Rattle.avm_ops.specs.declared.instr.Instr.{Instr}
 use Rattle.avm_ops.specs.declared.instr.Imm.{Imm}
 use Rattle.avm_ops.specs.declared.instr.Imm.TheVariants as imm
 use Rattle.avm_ops.specs.declared.rows.Row.{Row}
@@ -16,7 +15,7 @@ use Rattle.avm_ops.specs.declared.rows.Fields.{Fields}
 use Rattle.avm_ops.specs.declared.rows.Fields.TheVariants as fields
 use Rattle.avm_ops.specs.declared.rows.Format.{Format}
 use Rattle.avm_ops.specs.declared.rows.Format.TheVariants as format
-use Rattle.avm_ops.specs.Code.{HasForm, HasFormOf}
+use Rattle.avm_ops.specs.Code.{HasForm}
 use Rattle.avm_ops.specs.Immediate.{IsOf, is_field}
 use Rattle.avm_ops.specs.Table.{row_of}
 use Rattle.avm_asm.specs.declared.line.TableKind.{TableKind}
@@ -29,7 +28,7 @@ use Rattle.teal_line.specs.Mnemonics.{opcode_named, field_named, field_names, nu
 use Rattle.teal_line.specs.Operands.{is_some_label, number_said, signed_said, below, decimal_value, whole_value, behind_0x}
 use Rattle.teal_line.specs.Reading.{Says, jump_kind, table_kind, Said, said_as, then_said, or_flaw, number, bytes, one, two, none, each, named_first, label_word, imm_said, labels_said, statement_in, by_row, by_opcode, before_colon, label_line, by_first, says}
 use Rattle.teal_line.specs.Printing.{IsStatement}
-use Rattle.teal_line.specs.Counted.{IsCounted, IsCountedText, IsCountedStatement}
+use Rattle.teal_line.specs.Counted.{IsCounted, IsCountedStatement}
 
 -- ---- what a success shows of its parts
 

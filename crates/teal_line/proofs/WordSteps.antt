@@ -1,8 +1,8 @@
 -- The words of a line, one after the other.
-use Rattle.std.proofs.Common.{◌≡◌, ℕ, zero, suc, ◌+◌, ◌-◌, ◌≤◌, ◌<◌, Bool, true, false, not, List, [], ◌∷◌, ◌++◌, length, take, drop, refl, arith, ap, sym, ◌∙◌, length-drop, get_or, drop-cons, add-one, append-nil, append_assoc}
+use Rattle.std.proofs.Common.{◌≡◌, ℕ, zero, suc, ◌+◌, ◌-◌, ◌≤◌, ◌<◌, Bool, true, false, List, [], ◌∷◌, ◌++◌, length, take, drop, refl, arith, ap, sym, ◌∙◌, length-drop, get_or, drop-cons, add-one, append-nil, append_assoc}
 use Rattle.std.proofs.lemmas.List.{drop-drop, drop_all}
-use Rattle.std.specs.Prelude.{◌==◌, if◌then◌else◌}
-use Rattle.teal_line.specs.Words.{is_blank, is_comment, plain_length, quoted_length, quoted_word_length, word_length, words_in, words_of}
+use Rattle.std.specs.Prelude.{◌==◌}
+use Rattle.teal_line.specs.Words.{is_blank, is_comment, plain_length, word_length, words_in, words_of}
 use Rattle.teal_line.proofs.Joined.{words_word, words_blank, words_comment, words_none}
 
 plain_some : (b : ℕ) (bs : List ℕ) → is_blank b ≡ false → is_comment (b ∷ bs) ≡ false → 1 ≤ plain_length (b ∷ bs)

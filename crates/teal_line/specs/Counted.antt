@@ -4,7 +4,7 @@ use Rattle.std.specs.List.{All}
 use Rattle.avm_ops.specs.declared.instr.Imm.{Imm}
 use Rattle.avm_ops.specs.declared.instr.Imm.TheVariants as imm
 use Rattle.teal_line.specs.declared.statement.Statement.{Statement}
-use Rattle.teal_line.specs.declared.statement.Statement.TheVariants.{Op, Label, Jump, Table}
+use Rattle.teal_line.specs.declared.statement.Statement.TheVariants.{Op}
 
 abbrev pub IsCountedText : List ℕ → Type 0
 IsCountedText b = length b < 2 ^ 64

@@ -1,12 +1,10 @@
 -- What the words of a line say: an instruction, a label or a branch, or the first flaw: a word, then how many there are, then a number, then a byte string.
-use Rattle.std.specs.Prelude.{◌≡◌, ℕ, ◌^◌, ◌==◌, ◌-◌, nat_lt, nat_le, not, Bool, if◌then◌else◌, List, [], ◌∷◌, length, take, Option, Some, None, Result, Ok, Err}
+use Rattle.std.specs.Prelude.{◌≡◌, ℕ, ◌^◌, ◌==◌, nat_lt, not, if◌then◌else◌, List, [], ◌∷◌, length, Option, Some, None, Result, Ok, Err}
 use Rattle.std.specs.List.{list_all}
-use Rattle.avm_ops.specs.declared.instr.Instr.{Instr}
 use Rattle.avm_ops.specs.declared.instr.Imm.{Imm}
 use Rattle.avm_ops.specs.declared.instr.Imm.TheVariants as imm
 use Rattle.avm_ops.specs.declared.rows.Format.{Format}
 use Rattle.avm_ops.specs.declared.rows.Format.TheVariants as format
-use Rattle.avm_ops.specs.declared.rows.Fields.{Fields}
 use Rattle.avm_ops.specs.declared.rows.Row.{Row}
 use Rattle.avm_ops.specs.Table.{row_of}
 use Rattle.avm_asm.specs.declared.line.JumpKind.{JumpKind}

@@ -5,7 +5,7 @@ use Rattle.avm_ops.specs.declared.instr.Imm.{Imm}
 use Rattle.avm_ops.specs.declared.instr.Imm.TheVariants as imm
 use Rattle.avm_ops.specs.Code.{AreBytes}
 use Rattle.teal_line.specs.declared.statement.Statement.{Statement}
-use Rattle.teal_line.specs.declared.statement.Statement.TheVariants.{Op, Label, Jump, Table}
+use Rattle.teal_line.specs.declared.statement.Statement.TheVariants.{Op}
 use Rattle.teal_line.specs.Words.{words_of}
 use Rattle.teal_line.specs.Reading.{says}
 use Rattle.teal_line.specs.Printing.{statement_text}

@@ -3,7 +3,6 @@ pub mod Walks
 pub mod TextSteps
 pub mod TextLines
 pub mod TextBytes
-pub mod Forms
 pub mod TextLaw
 pub mod LawChain
 pub mod LawNumbers

@@ -1,22 +1,21 @@
 -- The byte strings among a program's immediates are of bytes.
-use Rattle.std.proofs.Common.{◌≡◌, ℕ, ◌+◌, ◌-◌, ◌<◌, ◌≤◌, List, [], ◌∷◌, ◌++◌, length, drop, get_or, Bool, true, false, refl, sym, ap, ◌∙◌, arith, subst, map}
+use Rattle.std.proofs.Common.{◌≡◌, ℕ, ◌+◌, ◌<◌, List, [], ◌∷◌, ◌++◌, length, Bool, true, false, refl, sym, arith, subst}
 use Rattle.std.specs.Prelude.{nat_lt, slice_index, if◌then◌else◌}
 use Rattle.std.specs.List.{All, flat_map}
 use Rattle.std.proofs.lemmas.Bool.Decides.{nat_tests}
 use Rattle.std.proofs.lemmas.List.{get_or_append_left, get_or-append-add, get_or-drop, get_or_past}
 use Rattle.std.proofs.lemmas.List.Elements.{All-nil, All-cons}
-use Rattle.avm_ops.specs.declared.instr.Instr.{Instr}
 use Rattle.avm_ops.specs.declared.instr.Imm.{Imm}
 use Rattle.avm_ops.specs.declared.instr.Imm.TheVariants as imm
 use Rattle.avm_ops.specs.Immediate.{imm_bytes, sized_bytes}
 use Rattle.avm_ops.specs.Varint.{number_bytes}
-use Rattle.avm_ops.specs.Code.{AreBytes, instr_bytes}
+use Rattle.avm_ops.specs.Code.{AreBytes}
 use Rattle.avm_run.specs.Form.{IsWellFormed}
 use Rattle.teal_line.specs.declared.statement.Statement.{Statement}
 use Rattle.teal_line.specs.declared.statement.Statement.TheVariants.{Label}
 use Rattle.teal_line.specs.ReadsBack.{HasBytes, IsOfBytes}
 use Rattle.teal_text.specs.Printing.{Placed, instructions, label_at, label_name, statement_by, statement_of, statements_of, targets}
-use Rattle.teal_text.proofs.LawChain.{Each, IsSound, bytes_at, each_append, each_flat_map, each_weaker, is_in, sound}
+use Rattle.teal_text.proofs.LawChain.{Each, bytes_at, each_append, each_flat_map, each_weaker, is_in, sound}
 
 front_by : (xs ys : List ℕ) (k : ℕ) (b : Bool) → nat_lt k (length xs) ≡ b → AreBytes (xs ++ ys) → slice_index xs k < 256
 front_by xs ys k true is h = let low = h k in let at = get_or_append_left xs ys 0 k (grind (arith, nat_tests)) in omega (arith, low, at)
@@ -66,5 +65,5 @@ statements_of_bytes code h w =
     let all : AreBytes (flat_map bytes_at ps) = subst AreBytes (sym s.walk.bytes) (λ k. let at = get_or-drop 1 code k 0 in let low = h (1 + k) in omega (arith, at, low)) in
     each_append IsOfBytes (flat_map piece ps) (label_at ts (length code))
     (each_flat_map IsOfBytes piece ps
-        (each_weaker (λ p. IsOfBytes (statement_of p)) (λ p. Each IsOfBytes (piece p)) (λ p b. each_append IsOfBytes (label_at ts p.pc) (statement_of p ∷ []) (label_of ts p.pc) (b, tt)) ps (each_of ps all)))
+    (each_weaker (λ p. IsOfBytes (statement_of p)) (λ p. Each IsOfBytes (piece p)) (λ p b. each_append IsOfBytes (label_at ts p.pc) (statement_of p ∷ []) (label_of ts p.pc) (b, tt)) ps (each_of ps all)))
     (label_of ts (length code))

@@ -1,5 +1,5 @@
 -- The printed text of a program is read as lines that are assembled to it.
-use Rattle.std.proofs.Common.{◌≡◌, ℕ, suc, ◌+◌, ◌<◌, ◌^◌, List, [], ◌∷◌, ◌++◌, length, get_or, Ok, Result, refl, sym, ap, ◌∙◌, arith}
+use Rattle.std.proofs.Common.{◌≡◌, ℕ, suc, ◌<◌, ◌^◌, List, [], ◌∷◌, length, Ok, ap, arith}
 use Rattle.std.specs.List.{All}
 use Rattle.avm_asm.specs.declared.line.Line.{Line}
 use Rattle.avm_asm.specs.Assembled.{assembled}
@@ -9,10 +9,9 @@ use Rattle.teal_line.specs.declared.statement.Statement.{Statement}
 use Rattle.teal_line.specs.Printing.{IsStatement}
 use Rattle.teal_line.specs.ReadsBack.{IsOfBytes, ReadsBack}
 use Rattle.teal_line.proofs.Law.{reads_back}
-use Rattle.teal_text.specs.declared.fault.TealFault.{TealFault}
 use Rattle.teal_text.specs.Numbering.{numbered}
 use Rattle.teal_text.specs.Printing.{statements_of, text_of}
-use Rattle.teal_text.specs.Reading.{lines_by, lines_of, read_of, statements_in}
+use Rattle.teal_text.specs.Reading.{lines_by, read_of}
 use Rattle.teal_text.proofs.LawChain.{Each}
 use Rattle.teal_text.proofs.Labels.{assembles_back, statements_hold}
 use Rattle.teal_text.proofs.TextBytes.{statements_of_bytes}

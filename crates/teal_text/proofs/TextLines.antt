@@ -1,7 +1,7 @@
 -- The lines of a printed text are the version line and the lines of its statements, and they say these statements.
-use Rattle.std.proofs.Common.{◌≡◌, ◌≢◌, ℕ, zero, suc, ◌+◌, ◌-◌, ◌<◌, ◌≤◌, List, [], ◌∷◌, ◌++◌, length, get_or, Bool, true, false, Ok, Err, Result, refl, sym, ap, ◌∙◌, arith, append_assoc, subst, codes}
-use Rattle.std.specs.Prelude.{◌==◌, bytes_eq, not, nat_le, if◌then◌else◌, Option, Some, None}
-use Rattle.std.specs.List.{All, list_any, slice_split, flat_map}
+use Rattle.std.proofs.Common.{◌≡◌, ◌≢◌, ℕ, suc, ◌-◌, ◌≤◌, List, [], ◌∷◌, ◌++◌, length, Bool, true, false, Ok, refl, sym, ap, ◌∙◌, arith, append_assoc, codes}
+use Rattle.std.specs.Prelude.{◌==◌, bytes_eq, nat_le, Some, None}
+use Rattle.std.specs.List.{All, list_any, slice_split}
 use Rattle.std.proofs.lemmas.Bool.Decides.{nat_tests}
 use Rattle.std.proofs.lemmas.Slice.Eq.{bytes_eq-Decides}
 use Rattle.std.proofs.lemmas.List.Elements.{All-nil, All-cons}
@@ -9,13 +9,11 @@ use Rattle.std.proofs.lemmas.List.Folds.{list_any_none}
 use Rattle.std.proofs.lemmas.List.Splits.{slice_split_at, length-slice_split}
 use Rattle.teal_line.specs.declared.statement.Statement.{Statement}
 use Rattle.teal_line.specs.Words.{words_of}
-use Rattle.teal_line.specs.Reading.{says}
 use Rattle.teal_line.specs.Printing.{statement_text}
 use Rattle.teal_line.specs.ReadsBack.{ReadsBack, IsPrintable}
-use Rattle.teal_text.specs.declared.fault.TealFault.{TealFault}
-use Rattle.teal_text.specs.Printing.{line_of, statements_of, text_of, version_line}
+use Rattle.teal_text.specs.Printing.{line_of, version_line}
 use Rattle.teal_text.specs.Pieces.{lines_text}
-use Rattle.teal_text.specs.Reading.{before, ended, is_ascii, later_line, line_says, lines_of, said_at, statements_in, versioned_by, without_return, words_say}
+use Rattle.teal_text.specs.Reading.{ended, is_ascii, line_says, lines_of, statements_in, versioned_by, without_return}
 use Rattle.teal_text.proofs.TextSteps.{no_return}
 use Rattle.teal_text.proofs.LawChain.{Each}
 

@@ -1,21 +1,18 @@
 -- Reading a text line by line: what is left of it, and what was read so far.
-use Rattle.std.proofs.Common.{◌≡◌, ◌≢◌, ℕ, zero, suc, ◌+◌, ◌-◌, ◌*◌, ◌<◌, ◌≤◌, List, [], ◌∷◌, ◌++◌, length, take, drop, get_or, Bool, true, false, Ok, Err, Result, refl, sym, ap, ◌∙◌, arith, append_assoc, subst}
-use Rattle.std.specs.Prelude.{map, ◌==◌, ◌&&◌, bytes_eq, if◌then◌else◌, Option, Some, None, position, nat_lt, not, IsErr, IsErrAnd}
-use Rattle.std.specs.List.{All, list_any, slice_split, position_or_len, before_first, after_first, cons_option}
+use Rattle.std.proofs.Common.{◌≡◌, ◌≢◌, ℕ, suc, ◌+◌, ◌-◌, ◌<◌, ◌≤◌, List, [], ◌∷◌, ◌++◌, length, take, drop, get_or, Bool, true, false, Ok, Err, Result, refl, sym, ap, ◌∙◌, arith, append_assoc, subst}
+use Rattle.std.specs.Prelude.{◌==◌, ◌&&◌, bytes_eq, if◌then◌else◌, Option, Some, None, position, nat_lt, IsErr, IsErrAnd}
+use Rattle.std.specs.List.{slice_split, position_or_len}
 use Rattle.std.proofs.lemmas.Bool.Decides.{nat_tests}
-use Rattle.std.proofs.lemmas.List.{append-nil, length-map}
-use Rattle.std.proofs.lemmas.List.Splits.{slice_split_first, slice_split_none, length-slice_split}
+use Rattle.std.proofs.lemmas.List.{append-nil}
+use Rattle.std.proofs.lemmas.List.Splits.{slice_split_first, length-slice_split}
 use Rattle.avm_asm.specs.declared.line.Line.{Line}
 use Rattle.avm_asm.specs.Listing.{AreLines}
 use Rattle.teal_line.specs.declared.statement.Statement.{Statement}
-use Rattle.teal_line.specs.declared.statement.Flaw.{Flaw}
-use Rattle.teal_line.specs.declared.statement.Flaw.TheVariants as flaw
 use Rattle.teal_line.specs.Words.{words_of}
-use Rattle.teal_line.specs.Reading.{Said, Says}
 use Rattle.teal_text.specs.declared.fault.TealFault.{TealFault}
 use Rattle.teal_text.specs.declared.fault.TealFault.TheVariants.{NotAscii, Pragma, Word, Count, Number, Bytes, Memory}
 use Rattle.teal_text.specs.Numbering.{numbered, line_by, names_of, with_names}
-use Rattle.teal_text.specs.Reading.{Reads, are_words, before, ended, fault_at, is_ascii, line_says, lines_by, lines_of, read_of, said_at, statements_in, versioned_by, without_return, words_say}
+use Rattle.teal_text.specs.Reading.{Reads, are_words, before, ended, is_ascii, line_says, lines_by, lines_of, read_of, statements_in, versioned_by, without_return, words_say}
 use Rattle.teal_text.proofs.NameNumbers.{both_suc, below_suc}
 use Rattle.teal_text.specs.Steps.{Adds, FaultsAs, IsRoomy, lines_after, names_after}
 

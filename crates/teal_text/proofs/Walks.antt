@@ -1,19 +1,18 @@
 -- Walks over the instructions of a program.
-use Rattle.std.proofs.Common.{◌≡◌, ℕ, zero, suc, ◌+◌, ◌-◌, ◌<◌, ◌≤◌, List, [], ◌∷◌, ◌++◌, length, drop, Bool, true, false, Ok, Err, Result, refl, sym, ap, ◌∙◌, arith, append_assoc}
+use Rattle.std.proofs.Common.{◌≡◌, ℕ, zero, suc, ◌-◌, ◌<◌, ◌≤◌, List, [], ◌∷◌, ◌++◌, length, Bool, true, false, Ok, refl, sym, ap, ◌∙◌, arith, append_assoc}
 use Rattle.std.specs.Prelude.{map, ◌==◌, ◌||◌, if◌then◌else◌}
 use Rattle.std.specs.List.{flat_map, list_any}
 use Rattle.std.proofs.lemmas.Bool.Decides.{nat_tests}
 use Rattle.std.proofs.lemmas.List.Folds.{list_any-append}
-use Rattle.std.proofs.lemmas.List.{append-nil, drop_all, map-append}
+use Rattle.std.proofs.lemmas.List.{append-nil, drop_all}
 use Rattle.std.proofs.lemmas.Grind.{flat_map-append}
 use Rattle.avm_ops.specs.declared.instr.Instr.{Instr}
-use Rattle.avm_ops.specs.declared.instr.DecodeFault.{DecodeFault}
-use Rattle.avm_ops.specs.Code.{decoded, decoded_at}
+use Rattle.avm_ops.specs.Code.{decoded_at}
 use Rattle.avm_run.specs.Bytes.{place, targets_of}
 use Rattle.teal_line.specs.declared.statement.Statement.{Statement}
 use Rattle.teal_line.specs.declared.statement.Statement.TheVariants.{Label}
 use Rattle.teal_line.specs.Printing.{statement_text}
-use Rattle.teal_text.specs.Printing.{Placed, label_name, placed_from, placed_then, instructions, targets, places_of, text_of, statements_of, statements_by, statement_of, label_at, line_of, version_line}
+use Rattle.teal_text.specs.Printing.{Placed, label_name, placed_from, instructions, targets, text_of, statement_of, label_at, line_of, version_line}
 use Rattle.teal_text.specs.Pieces.{with_place, with_places, lines_text, placed_text, body_text}
 
 end_by : (n : ℕ) (code : List ℕ) (pc : ℕ) (b : Bool) → (pc == length code) ≡ b → length code ≤ pc → placed_from (suc n) code pc ≡ []

@@ -1,5 +1,5 @@
 -- Labels by number: a label's number is how many other labels were seen before it first was, where it stands or is named (TEAL text).
-use Rattle.std.specs.Prelude.{ℕ, zero, suc, if◌then◌else◌, bytes_eq, List, [], ◌∷◌, ◌++◌, Bool}
+use Rattle.std.specs.Prelude.{ℕ, suc, if◌then◌else◌, bytes_eq, List, [], ◌∷◌, ◌++◌}
 use Rattle.std.specs.List.{list_any}
 use Rattle.avm_asm.specs.declared.line.Line.{Line}
 use Rattle.avm_asm.specs.declared.line.Line.TheVariants as line

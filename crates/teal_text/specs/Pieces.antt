@@ -1,7 +1,6 @@
 -- The pieces that printing goes by: the places where branches lead, each once, and the text of statements (TEAL text).
-use Rattle.std.specs.Prelude.{ℕ, ◌==◌, if◌then◌else◌, List, [], ◌∷◌, ◌++◌, map}
+use Rattle.std.specs.Prelude.{ℕ, ◌==◌, if◌then◌else◌, List, [], ◌∷◌, ◌++◌}
 use Rattle.std.specs.List.{flat_map, list_any}
-use Rattle.avm_run.specs.Bytes.{place, targets_of}
 use Rattle.teal_line.specs.declared.statement.Statement.{Statement}
 use Rattle.teal_line.specs.Printing.{statement_text}
 use Rattle.teal_text.specs.Printing.{Placed, label_at, line_of, statement_of}

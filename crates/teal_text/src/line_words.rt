@@ -1,6 +1,7 @@
-ghost use Rattle.std.specs.Prelude.{◌≡◌, ◌∷◌, [], map};
+ghost use Rattle.std.specs.Prelude.{◌≡◌, ◌∷◌, [], map, IfOk};
 ghost use Rattle.teal_line.specs.Reading.{Says, says};
 ghost use Rattle.teal_text.specs.Reading.{Reads, are_words, fault_at, is_known_pragma, later_line, said_at, version_words, words_say};
+ghost use Rattle.teal_text.specs.Steps.{IsNoneOrStatement};
 
 use crate::fault::TealFault;
 use std::alloc::Global;
@@ -41,7 +42,8 @@ fn is_version(first: &[u8], rest: &[&[u8]]) -> bool
 fn is_known_pragma(first: &[u8], rest: &[&[u8]]) -> bool
     ensures { result ≡ is_known_pragma (first.now ∷ map (λ w. w.now) rest.now) }
 {
-    first == PRAGMA && (are_two(rest, b"typetrack", b"true") || are_two(rest, b"typetrack", b"false"))
+    first == PRAGMA
+        && (are_two(rest, b"typetrack", b"true") || are_two(rest, b"typetrack", b"false"))
 }
 
 /// What a line says that is no pragma.
@@ -51,7 +53,8 @@ fn statement_at(
     first: &[u8],
     rest: &[&[u8]],
 ) -> Result<Option<Statement>, TealFault>
-    ensures { Reads result (said_at number (says first.now (map (λ w. w.now) rest.now))) }
+    ensures due { Reads result (said_at number (says first.now (map (λ w. w.now) rest.now))) }
+    ensures form { IfOk result IsNoneOrStatement }
 {
     match said(alloc, first, rest) {
         Ok(statement) => Ok(Some(statement)),
@@ -66,7 +69,8 @@ fn later_line(
     first: &[u8],
     rest: &[&[u8]],
 ) -> Result<Option<Statement>, TealFault>
-    ensures { Reads result (later_line number first.now (map (λ w. w.now) rest.now)) }
+    ensures due { Reads result (later_line number first.now (map (λ w. w.now) rest.now)) }
+    ensures form { IfOk result IsNoneOrStatement }
 {
     if first != PRAGMA {
         statement_at(alloc, number, first, rest)
@@ -84,7 +88,8 @@ pub(crate) fn words_say(
     versioned: bool,
     words: &[&[u8]],
 ) -> Result<Option<Statement>, TealFault>
-    ensures { Reads result (words_say number versioned (map (λ w. w.now) words.now)) }
+    ensures due { Reads result (words_say number versioned (map (λ w. w.now) words.now)) }
+    ensures form { IfOk result IsNoneOrStatement }
 {
     match words {
         [] => Ok(None),

@@ -38,11 +38,7 @@ fn is_ascii(line: &[u8]) -> bool
 }
 
 /// The words of a line of ASCII.
-fn words_at<'a>(
-    alloc: Global,
-    number: u32,
-    line: &'a [u8],
-) -> Result<List<&'a [u8]>, TealFault>
+fn words_at<'a>(alloc: Global, number: u32, line: &'a [u8]) -> Result<List<&'a [u8]>, TealFault>
     ensures ok { IfOk result (λ ws. (is_ascii line.now ≡ true) × (map (λ w. w.now) ws ≡ words_of line.now)) }
     ensures err { (versioned : Bool) → FaultsAs result (line_says number versioned line.now) }
 {
@@ -77,17 +73,10 @@ fn add(
 
 /// A line without the carriage return at its end.
 fn without_return(line: &[u8]) -> &[u8]
-    ensures value { result.now ≡ without_return line.now }
-    ensures short { length result.now ≤ length line.now }
+    ensures { result.now ≡ without_return line.now }
 {
     match line {
-        [front @ .., last] => {
-            if *last == b'\r' {
-                front
-            } else {
-                line
-            }
-        }
+        [front @ .., last] => { if *last == b'\r' { front } else { line } }
         [] => line,
     }
 }
@@ -103,8 +92,7 @@ fn line_end(text: &[u8]) -> Option<usize>
 /// The first line, whose line feed stands at that place.
 fn line_at(text: &[u8], end: usize) -> &[u8]
     requires { end < length text.now }
-    ensures value { result.now ≡ without_return (take end text.now) }
-    ensures short { length result.now ≤ length text.now }
+    ensures { result.now ≡ without_return (take end text.now) }
 {
     without_return(&text[..end])
 }
@@ -119,7 +107,6 @@ fn text_behind(text: &[u8], end: usize) -> &[u8]
 
 /// Reads the next line.
 fn read_line(alloc: Global, reading: &mut Reading, line: &[u8]) -> Result<(), TealFault>
-    requires short { length line.now ≤ 1048576 }
     requires few { reading.old.number < 2 ^ 22 }
     requires room { IsRoomy reading.old.names reading.old.number }
     requires lines { AreLines reading.old.lines }

@@ -102,10 +102,7 @@ const FAULTS: [(&[u8], &str); 28] = [
     (b"\npushint 1", "Pragma(2)"),
     (b"#pragma version 010", "Pragma(1)"),
     (b"#pragma version 10 x", "Pragma(1)"),
-    (
-        b"#pragma typetrack true\n#pragma version 10",
-        "Pragma(1)",
-    ),
+    (b"#pragma typetrack true\n#pragma version 10", "Pragma(1)"),
     (b"#pragma version 10\n#pragma version 10", "Pragma(2)"),
     (b"#pragma version 10\n#pragma typetrack", "Pragma(2)"),
     (b"#pragma version 11 \xff", "NotAscii(1)"),
@@ -130,23 +127,24 @@ const FAULTS: [(&[u8], &str); 28] = [
     (b"#pragma version 10\npushint x\nint", "Number(2)"),
 ];
 
-fn check_rows(rt: HostRuntime, rows: &[(&[u8], &str)]) -> Result<(), Fail> {
+#[test]
+fn texts_are_read(rt: HostRuntime) -> Result<(), Fail> {
     let alloc = rt.alloc();
-    for (text, want) in rows {
+    for (text, want) in READ {
         let seen = shown(alloc, text)?;
-        assert_eq!(rt; seen.as_str(), *want);
+        assert_eq!(rt; seen.as_str(), want);
     }
     Ok(())
 }
 
 #[test]
-fn texts_are_read(rt: HostRuntime) -> Result<(), Fail> {
-    check_rows(rt, &READ)
-}
-
-#[test]
 fn faults_come_by_line_and_kind(rt: HostRuntime) -> Result<(), Fail> {
-    check_rows(rt, &FAULTS)
+    let alloc = rt.alloc();
+    for (text, want) in FAULTS {
+        let seen = shown(alloc, text)?;
+        assert_eq!(rt; seen.as_str(), want);
+    }
+    Ok(())
 }
 
 /// A `match` with so many labels on line 2.

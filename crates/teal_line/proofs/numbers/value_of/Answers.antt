@@ -1,4 +1,4 @@
-use Rattle.std.proofs.Common.{◌≡◌, ◌<◌, ◌^◌, suc, length, drop, get_or, sym, ◌∙◌, ap, arith, drop-cons}
+use Rattle.std.proofs.Common.{◌<◌, ◌^◌, suc, length, drop, get_or, sym, ◌∙◌, ap, arith, drop-cons}
 use Rattle.teal_line.specs.Operands.{below, value_in, digit_in}
 use Rattle.teal_line.proofs.NumberSteps.{stops}
 use Rattle.teal_line.proofs.numbers.value_of.Goals as goal

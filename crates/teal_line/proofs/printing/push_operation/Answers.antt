@@ -1,4 +1,4 @@
-use Rattle.std.proofs.Common.{◌≡◌, ◌++◌, sym, ap, ◌∙◌}
+use Rattle.std.proofs.Common.{◌++◌, sym, ap, ◌∙◌}
 use Rattle.teal_line.specs.Mnemonics.{name_of}
 use Rattle.teal_line.specs.Printing.{spaced, imm_words_in, statement_text}
 use Rattle.teal_line.specs.declared.statement.Statement.TheVariants.{Op}

@@ -1,4 +1,4 @@
-use Rattle.std.proofs.Common.{◌≡◌, ◌++◌, ap, ◌∙◌}
+use Rattle.std.proofs.Common.{◌++◌, ap, ◌∙◌}
 use Rattle.avm_asm.specs.Listing.{table_opcode}
 use Rattle.teal_line.specs.Mnemonics.{name_of}
 use Rattle.teal_line.specs.Printing.{spaced, statement_text}

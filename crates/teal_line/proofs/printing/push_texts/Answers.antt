@@ -1,4 +1,4 @@
-use Rattle.std.proofs.Common.{◌≡◌, ◌++◌, [], ◌∷◌, ap, ◌∙◌, arith}
+use Rattle.std.proofs.Common.{◌++◌, [], ◌∷◌, ap, ◌∙◌, arith}
 use Rattle.teal_line.specs.Operands.{bytes_word}
 use Rattle.teal_line.specs.Printing.{spaced}
 use Rattle.teal_line.proofs.SpacedSteps.{spaced_step}

@@ -1,4 +1,4 @@
-use Rattle.std.proofs.Common.{◌≢◌, ◌∷◌, [], length, sym, arith}
+use Rattle.std.proofs.Common.{◌∷◌, [], sym, arith}
 use Rattle.std.specs.Prelude.{map}
 use Rattle.std.proofs.lemmas.List.{length-map}
 use Rattle.teal_text.proofs.TextSteps.{other_words}

@@ -1,4 +1,3 @@
-use Rattle.std.proofs.Common.{refl, ◌∙◌}
 use Rattle.teal_text.proofs.Walks.{whole_text}
 use Rattle.teal_text.proofs.printing.print.Goals as goal
 

@@ -1,4 +1,4 @@
-use Rattle.std.proofs.Common.{sym, ◌∙◌}
+use Rattle.std.proofs.Common.{sym}
 use Rattle.teal_text.proofs.TextSteps.{not_ascii}
 use Rattle.teal_text.proofs.reading.words_at.Goals as goal
 

@@ -1,4 +1,4 @@
-use Rattle.teal_text.proofs.Walks.{gather_all, gather_more, gathered}
+use Rattle.teal_text.proofs.Walks.{gather_more, gathered}
 use Rattle.teal_text.proofs.targets.targets_of.Goals as goal
 
 pub loop-pc-preserved : goal.loop-pc-preserved

@@ -12,7 +12,7 @@ pub returns-clause-number : goal.returns-clause-number
 returns-clause-number c =
     rw (← c.self.view_is)
     (c.len-number.ensures.len
-        ∙ (new string_bytes c.args.name.now c.self.inside.names.keys c.in_ok-name.name c.insert.new.self.keys c.in_default.ensures.index c.in_ok-name.ensures.ok c.in_ok-insert.ensures.keys).0)
+    ∙ (new string_bytes c.args.name.now c.self.inside.names.keys c.in_ok-name.name c.insert.new.self.keys c.in_default.ensures.index c.in_ok-name.ensures.ok c.in_ok-insert.ensures.keys).0)
 
 pub returns-clause-seen : goal.returns-clause-seen
 returns-clause-seen c =
