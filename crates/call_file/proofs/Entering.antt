@@ -1,8 +1,6 @@
 -- What the count of a ledger's entries says of a new entry.
 use Rattle.std.proofs.Common.{ℕ, ◌+◌, ◌≡◌, Bool, true, false, cond, ◌&&◌, List, Option, Some, None, refl, sym, ap, ◌∙◌, unwrap_or, arith}
 use Rattle.std.specs.Prelude.{⊤, not}
-use Rattle.std.specs.Cmp.{IsTotalOrder}
-use Rattle.std.specs.declared.cmp.Ordering.{Ordering}
 use Rattle.std.specs.FinMap as map
 use Rattle.std.proofs.lemmas.Cmp.{nat_list_cmp_total}
 use Rattle.puya_base.specs.declared.value.Value.{Value}

@@ -1,11 +1,10 @@
 -- What the fields give is a call in form.
-use Rattle.std.proofs.Common.{ℕ, ◌≡◌, ◌≢◌, ◌≤◌, Bool, true, false, ◌&&◌, List, length, Option, Some, None, refl, ap, ◌∙◌, sym, arith}
+use Rattle.std.proofs.Common.{ℕ, ◌≡◌, ◌≢◌, ◌≤◌, Bool, true, false, ◌&&◌, List, length, refl, arith}
 use Rattle.std.specs.Prelude.{IsTrue, not, nat_le, ◌==◌, codes, option_and_then}
-use Rattle.std.specs.List.{All}
 use Rattle.std.proofs.lemmas.Bool.{leb-true}
 use Rattle.std.proofs.lemmas.Bool.Decides.{nat_tests}
 use Rattle.serde_json.specs.Data.{Data}
-use Rattle.serde_json.specs.Find.{as_bool, as_str, as_number, as_u64}
+use Rattle.serde_json.specs.Find.{as_bool, as_str}
 use Rattle.avm_state.specs.Calls.{is_box_name, clear_state}
 use Rattle.avm_state.specs.Forms.{IsAddress, IsCallInForm}
 use Rattle.avm_state.specs.Steps.{total_length}
@@ -13,9 +12,9 @@ use Rattle.call_file.specs.declared.parts.Act.{Act}
 use Rattle.call_file.specs.declared.parts.Origin.{Origin}
 use Rattle.call_file.specs.declared.parts.Reach.{Reach}
 use Rattle.call_file.specs.declared.parts.Setting.{Setting}
-use Rattle.call_file.specs.Faults.{◌>>=◌, field}
+use Rattle.call_file.specs.Faults.{field}
 use Rattle.call_file.specs.Forms.{number, from_one, number_within, completion, hex_bytes, within_bytes, bytes_within, address, box_name, list_within, arguments}
-use Rattle.call_file.specs.Saved.{act_of, origin_of, reach_of, setting_of, joined, call_of}
+use Rattle.call_file.specs.Saved.{act_of, origin_of, reach_of, setting_of, call_of}
 use Rattle.call_file.proofs.Answering.{Gives, Holds, then_holds, field_holds, any_field, kept_gives, kept_both, AreFew, list_gives}
 
 first_true : (a b : Bool) → (a && b) ≡ true → a ≡ true

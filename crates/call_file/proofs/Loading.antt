@@ -1,6 +1,6 @@
 -- Entries that go into a ledger one after another are those of the definition.
-use Rattle.std.proofs.Common.{ℕ, ◌≡◌, Bool, true, false, cond, ◌&&◌, List, [], ◌∷◌, Option, Some, None, option_map, is_some, refl, sym, ap, ◌∙◌}
-use Rattle.std.specs.Prelude.{⊤, not, option_and_then}
+use Rattle.std.proofs.Common.{ℕ, ◌≡◌, Bool, true, false, cond, ◌&&◌, List, [], ◌∷◌, Option, Some, None, option_map, is_some, refl, ap, ◌∙◌}
+use Rattle.std.specs.Prelude.{not, option_and_then}
 use Rattle.std.specs.List.{list_all}
 use Rattle.std.specs.Ordering.{eq_by_cmp}
 use Rattle.std.specs.Cmp.{IsTotalOrder}
@@ -9,11 +9,8 @@ use Rattle.std.specs.FinMap as map
 use Rattle.std.proofs.lemmas.Cmp.{nat_list_cmp_total}
 use Rattle.serde_json.specs.Data.{Data}
 use Rattle.serde_json.specs.Find.{get}
-use Rattle.puya_base.specs.declared.value.Value.{Value}
-use Rattle.avm_state.specs.Keys.{bytes_cmp, local_cmp}
 use Rattle.avm_state.specs.KeyLaws.{local_cmp_total}
 use Rattle.avm_state.specs.LedgerState.{LedgerState, has_opted}
-use Rattle.avm_state.specs.Calls.{is_box_name}
 use Rattle.avm_state.specs.Steps.{is_pair_within}
 use Rattle.call_file.specs.Faults.{field, judged, formed}
 use Rattle.call_file.specs.Forms.{kept, before, each, items_within}

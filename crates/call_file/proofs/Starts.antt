@@ -1,18 +1,15 @@
 -- What the fields give is a starting ledger.
-use Rattle.std.proofs.Common.{ℕ, ◌≡◌, Bool, true, false, cond, ◌&&◌, List, [], ◌∷◌, Option, Some, None, option_map, Result, Ok, Err, refl, sym, ap, subst, ◌∙◌}
-use Rattle.std.specs.Prelude.{⊤, not, option_and_then, codes}
-use Rattle.std.specs.FinMap as map
+use Rattle.std.proofs.Common.{ℕ, ◌≡◌, Bool, true, false, cond, ◌&&◌, List, [], ◌∷◌, Option, Some, None, option_map, Ok, refl, ap, subst}
+use Rattle.std.specs.Prelude.{option_and_then, codes}
 use Rattle.serde_json.specs.Data.{Data}
-use Rattle.serde_json.specs.Read.{read}
 use Rattle.puya_base.specs.declared.faults.StepFault.{StepFault}
-use Rattle.avm_state.specs.LedgerState.{LedgerState, has_opted, no_entries}
-use Rattle.avm_state.specs.Calls.{is_box_name}
+use Rattle.avm_state.specs.LedgerState.{LedgerState, no_entries}
 use Rattle.avm_state.specs.Forms.{IsStarting}
-use Rattle.avm_state.specs.Steps.{where_holds, leaves, is_pair_within, with_global, with_local, with_box, with_opted}
+use Rattle.avm_state.specs.Steps.{where_holds, leaves, with_global, with_local, with_box, with_opted}
 use Rattle.avm_state.proofs.Starting.{no_entries_start, global_put_keeps, set_local_keeps, set_box_keeps, opt_in_keeps}
-use Rattle.call_file.specs.Faults.{◌>>=◌, field}
-use Rattle.call_file.specs.Forms.{kept, each, list_within}
-use Rattle.call_file.specs.Loads.{Kind, put_all, may_all_go, loaded, put_new, globals, opted, locals, boxes}
+use Rattle.call_file.specs.Faults.{field}
+use Rattle.call_file.specs.Forms.{kept, list_within}
+use Rattle.call_file.specs.Loads.{Kind, put_all, may_all_go, loaded, globals, opted, locals, boxes}
 use Rattle.call_file.specs.Saved.{ledger_of}
 use Rattle.call_file.proofs.Answering.{Gives, Holds, then_holds, field_holds}
 use Rattle.call_file.proofs.Loading.{IsKeyed, entered, all_enter, globals_keyed, opted_keyed, locals_keyed, boxes_keyed}

@@ -1,5 +1,5 @@
 -- The whole file.
-use Rattle.std.proofs.Common.{ℕ, ◌≡◌, Bool, true, false, cond, List, Option, Some, None, Result, Ok, Err, IfOk, is_some, refl, sym, ap, subst, ◌∙◌}
+use Rattle.std.proofs.Common.{ℕ, ◌≡◌, Bool, true, false, cond, List, Some, None, Result, Ok, Err, IfOk, is_some, refl, ap, ◌∙◌}
 use Rattle.std.specs.Str.{IsUtf8, is_utf8}
 use Rattle.std.proofs.lemmas.Str.{IsUtf8-from_is_utf8, is_utf8-from_IsUtf8}
 use Rattle.serde_json.specs.Data.{Data}
@@ -9,7 +9,7 @@ use Rattle.avm_state.specs.Forms.{IsCallInForm, IsStarting}
 use Rattle.call_file.specs.declared.fault.CallFault.{CallFault}
 use Rattle.call_file.specs.declared.fault.CallFault.TheVariants.{Json}
 use Rattle.call_file.specs.declared.saved.Saved.{Saved}
-use Rattle.call_file.specs.Faults.{◌>>=◌, Answers}
+use Rattle.call_file.specs.Faults.{Answers}
 use Rattle.call_file.specs.Saved.{contract_of, call_of, ledger_of, fields_of, value_of, of_value, saved_of}
 use Rattle.call_file.proofs.Answering.{Holds, then_holds, answered}
 use Rattle.call_file.proofs.InForm.{call_holds}

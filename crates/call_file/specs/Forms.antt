@@ -1,6 +1,6 @@
 -- What the value of a field stands for (JSON: RFC 8259; bytes in hexadecimal: RFC 4648, section 8, in either case; the limits: the consensus parameters of application calls).
 -- Each form is the thing that a value stands for, or none where the value is of no such form.
-use Rattle.std.specs.Prelude.{ℕ, Bool, true, false, if◌then◌else◌, ◌&&◌, ◌==◌, not, nat_le, List, [], ◌∷◌, length, Option, Some, None, option_map, option_and_then}
+use Rattle.std.specs.Prelude.{ℕ, Bool, if◌then◌else◌, ◌&&◌, ◌==◌, not, nat_le, List, [], ◌∷◌, length, Option, Some, None, option_map, option_and_then}
 use Rattle.std.specs.Result.{result_ok}
 use Rattle.std.specs.Option.{option_or}
 use Rattle.hex.specs.Hex.{decode_of}

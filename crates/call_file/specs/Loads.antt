@@ -1,5 +1,5 @@
 -- The entries of a list go into a ledger (AVM specification, "Accessing Application State", "Boxes").
-use Rattle.std.specs.Prelude.{ℕ, Bool, true, false, if◌then◌else◌, ◌&&◌, not, nat_le, List, [], ◌∷◌, length, Option, Some, None, option_map, option_and_then}
+use Rattle.std.specs.Prelude.{ℕ, Bool, true, if◌then◌else◌, ◌&&◌, not, nat_le, List, [], ◌∷◌, length, Option, Some, None, option_map, option_and_then}
 use Rattle.std.specs.List.{list_all}
 use Rattle.std.specs.Ordering.{eq_by_cmp}
 use Rattle.std.specs.FinMap as map
@@ -21,7 +21,8 @@ abbrev pub put_all : {E : Type 0} → (LedgerState → E → LedgerState) → Le
 put_all put ledger [] = ledger
 put_all put ledger (e ∷ es) = put_all put (put ledger e) es
 
--- a kind of entry: how it is written, which may go into a ledger, which two are under one key, and the ledger with one more
+-- a kind of entry: how it is written, which may go into a ledger (its key is not there, and it is within the limits of what stands there),
+-- which two are under one key, and the ledger with one more
 pub record Kind (E : Type 0) : Type 0 where
   pub reads : Data → Option E
   pub may_go : LedgerState → E → Bool
@@ -52,7 +53,7 @@ opted = record {
   put = with_opted;
 }
 
--- the account has opted in
+-- the account must have opted in
 abbrev pub locals : Kind (List ℕ × (List ℕ × Value))
 locals = record {
   reads = local_entry;
@@ -68,6 +69,8 @@ boxes = record {
   same = λ e f. eq_by_cmp bytes_cmp e.0 f.0;
   put = λ ledger e. with_box ledger e.0 e.1;
 }
+
+-- How the code goes about it, entry after entry; `loads` in proofs/Loading shows that this is `loaded`.
 
 -- one more of its kind, where it may go
 abbrev pub put_new : {E : Type 0} → Kind E → LedgerState → E → Option LedgerState

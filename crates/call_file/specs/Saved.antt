@@ -24,6 +24,7 @@ contract_of true d = do
   contract ← field (codes "contract") as_str d
   Ok (Some contract)
 
+-- the fields of the call: each is missing, or else bad, or else what stands there; the first fault is the answer
 abbrev pub act_of : Data → Result Act CallFault
 act_of d = do
   application ← field (codes "application") from_one d
@@ -53,6 +54,7 @@ setting_of d = do
   budget ← field (codes "budget") (number_within 1 11200) d
   Ok (record { round = round; timestamp = timestamp; creator = creator; budget = budget })
 
+-- the call of its parts
 abbrev pub joined : Act → Origin → Reach → Setting → Call
 joined act origin reach setting = record {
   application = act.application;
@@ -78,6 +80,7 @@ call_of d = do
   setting ← setting_of d
   Ok (joined act origin reach setting)
 
+-- the fields of the ledger, each loaded into what the ones before gave, from a ledger with nothing in it
 abbrev pub ledger_of : Data → Result LedgerState CallFault
 ledger_of d = do
   first ← field (codes "global") (loaded 64 globals no_entries) d
@@ -85,6 +88,7 @@ ledger_of d = do
   third ← field (codes "local") (loaded 256 locals second) d
   field (codes "box") (loaded 64 boxes third) d
 
+-- all of them
 abbrev pub fields_of : Bool → Data → Result Saved CallFault
 fields_of named d = do
   contract ← contract_of named d
@@ -96,6 +100,7 @@ fields_of named d = do
 abbrev pub value_of : List ℕ → Option Data
 value_of text = if is_utf8 text then read text else None
 
+-- only an object has fields
 abbrev pub of_value : Bool → Option Data → Result Saved CallFault
 of_value named None = Err Json
 of_value named (Some d) = if is_some (as_object d) then fields_of named d else Err Json

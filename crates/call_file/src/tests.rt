@@ -216,11 +216,11 @@ fn said_with(alloc: Global, changes: &[(&str, &str)], named: bool) -> Result<Str
 }
 
 /// The file that is good, read.
-fn whole(alloc: Global, named: bool) -> Result<Option<Saved>, Memory> {
+fn whole(alloc: Global, named: bool) -> Result<Saved, Memory> {
     let text = file_of(alloc, &[])?;
     match read_call(alloc, text.as_slice(), named) {
-        Ok(saved) => Ok(Some(saved)),
-        Err(_) => Ok(None),
+        Ok(saved) => Ok(saved),
+        Err(_) => Err(Memory),
     }
 }
 
@@ -230,23 +230,20 @@ fn a_call_is_read_whole(rt: HostRuntime) -> Result<(), Fail> {
     let some = [0x11u8; 32];
     let other = [0x22u8; 32];
     let saved = whole(alloc, true)?;
-    assert!(rt; saved.is_some());
-    if let Some(saved) = saved {
-        let call = &saved.call;
-        assert_eq!(rt; call.application, 7);
-        assert!(rt; !call.creating);
-        assert_eq!(rt; call.on_completion, 5);
-        assert_eq!(rt; call.args.len(), 3);
-        assert_eq!(rt; call.sender.as_slice(), some.as_slice());
-        assert_eq!(rt; call.fee, 1000);
-        assert_eq!(rt; call.note.as_slice(), b"hi".as_slice());
-        assert_eq!(rt; call.accounts.len(), 3);
-        assert_eq!(rt; call.boxes.len(), 2);
-        assert_eq!(rt; call.round, 18446744073709551615);
-        assert_eq!(rt; call.timestamp, 0);
-        assert_eq!(rt; call.creator.as_slice(), other.as_slice());
-        assert_eq!(rt; call.budget, 11200);
-    }
+    let call = &saved.call;
+    assert_eq!(rt; call.application, 7);
+    assert!(rt; !call.creating);
+    assert_eq!(rt; call.on_completion, 5);
+    assert_eq!(rt; call.args.len(), 3);
+    assert_eq!(rt; call.sender.as_slice(), some.as_slice());
+    assert_eq!(rt; call.fee, 1000);
+    assert_eq!(rt; call.note.as_slice(), b"hi".as_slice());
+    assert_eq!(rt; call.accounts.len(), 3);
+    assert_eq!(rt; call.boxes.len(), 2);
+    assert_eq!(rt; call.round, 18446744073709551615);
+    assert_eq!(rt; call.timestamp, 0);
+    assert_eq!(rt; call.creator.as_slice(), other.as_slice());
+    assert_eq!(rt; call.budget, 11200);
     Ok(())
 }
 
@@ -264,33 +261,29 @@ fn barred(alloc: Global, list: &[Blob]) -> Result<Blob, Memory> {
 fn the_lists_of_a_call_are_read_whole(rt: HostRuntime) -> Result<(), Fail> {
     let alloc = rt.alloc();
     let saved = whole(alloc, true)?;
-    if let Some(saved) = saved {
-        let args = barred(alloc, saved.call.args.as_slice())?;
-        assert_eq!(rt; args.as_slice(), b"\x00\xff||\xab\xcd|".as_slice());
-        let boxes = barred(alloc, saved.call.boxes.as_slice())?;
-        assert_eq!(rt; boxes.as_slice(), b"b|b|".as_slice());
-        let accounts = barred(alloc, saved.call.accounts.as_slice())?;
-        assert_eq!(rt; accounts.len(), 99);
-        assert_eq!(rt;
-            &accounts.as_slice()[31..35],
-            [0x11, b'|', 0x22, 0x22].as_slice()
-        );
-    }
+    let args = barred(alloc, saved.call.args.as_slice())?;
+    assert_eq!(rt; args.as_slice(), b"\x00\xff||\xab\xcd|".as_slice());
+    let boxes = barred(alloc, saved.call.boxes.as_slice())?;
+    assert_eq!(rt; boxes.as_slice(), b"b|b|".as_slice());
+    let accounts = barred(alloc, saved.call.accounts.as_slice())?;
+    assert_eq!(rt; accounts.len(), 99);
+    assert_eq!(rt;
+        &accounts.as_slice()[31..35],
+        [0x11, b'|', 0x22, 0x22].as_slice()
+    );
     Ok(())
 }
 
 #[test]
 fn the_contract_is_read_where_it_is_named(rt: HostRuntime) -> Result<(), Fail> {
     let alloc = rt.alloc();
-    if let Some(saved) = whole(alloc, true)? {
-        assert!(rt; saved.contract.is_some());
-        if let Some(name) = &saved.contract {
-            assert_eq!(rt; name.as_str(), "c.py");
-        }
+    let saved = whole(alloc, true)?;
+    assert!(rt; saved.contract.is_some());
+    if let Some(name) = &saved.contract {
+        assert_eq!(rt; name.as_str(), "c.py");
     }
-    if let Some(saved) = whole(alloc, false)? {
-        assert!(rt; saved.contract.is_none());
-    }
+    let saved = whole(alloc, false)?;
+    assert!(rt; saved.contract.is_none());
     for value in ["", "null", "7"] {
         let text = said_with(alloc, &[("contract", value)], false)?;
         assert_eq!(rt; text.as_str(), "read", "{value}");
@@ -344,15 +337,14 @@ fn box_text(alloc: Global, saved: &Saved) -> Result<Blob, Memory> {
 #[test]
 fn the_ledger_is_read_whole(rt: HostRuntime) -> Result<(), Fail> {
     let alloc = rt.alloc();
-    if let Some(saved) = whole(alloc, true)? {
-        let text = global_text(alloc, &saved)?;
-        assert_eq!(rt; text.as_slice(), b"=\x00\xff|k=7|kk=|".as_slice());
-        let text = local_text(alloc, &saved)?;
-        assert_eq!(rt; text.as_slice(), b"\x11=0|\x11k=7|\x22k=\xff|".as_slice());
-        let text = box_text(alloc, &saved)?;
-        assert_eq!(rt; text.as_slice(), b"b=|\xff=\x01\x02|".as_slice());
-        assert_eq!(rt; saved.ledger.log_count(), 0);
-    }
+    let saved = whole(alloc, true)?;
+    let text = global_text(alloc, &saved)?;
+    assert_eq!(rt; text.as_slice(), b"=\x00\xff|k=7|kk=|".as_slice());
+    let text = local_text(alloc, &saved)?;
+    assert_eq!(rt; text.as_slice(), b"\x11=0|\x11k=7|\x22k=\xff|".as_slice());
+    let text = box_text(alloc, &saved)?;
+    assert_eq!(rt; text.as_slice(), b"b=|\xff=\x01\x02|".as_slice());
+    assert_eq!(rt; saved.ledger.log_count(), 0);
     Ok(())
 }
 

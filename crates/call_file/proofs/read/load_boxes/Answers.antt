@@ -3,7 +3,7 @@ use Rattle.std.specs.Prelude.{codes, Result}
 use Rattle.serde_json.specs.View.{view}
 use Rattle.avm_state.specs.LedgerState.{LedgerState}
 use Rattle.call_file.specs.declared.fault.CallFault.{CallFault}
-use Rattle.call_file.specs.Faults.{Answers, field}
+use Rattle.call_file.specs.Faults.{Answers}
 use Rattle.call_file.specs.Loads.{boxes, loaded, load_within, puts}
 use Rattle.call_file.proofs.Loading.{loads, boxes_keyed, same_field}
 use Rattle.call_file.proofs.read.load_boxes.Goals as goal

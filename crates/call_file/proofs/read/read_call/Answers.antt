@@ -3,7 +3,7 @@ use Rattle.serde_json.specs.View.{view}
 use Rattle.call_file.specs.declared.fault.CallFault.{CallFault}
 use Rattle.call_file.specs.declared.saved.Saved.{Saved}
 use Rattle.call_file.specs.Faults.{Answers}
-use Rattle.call_file.proofs.Whole.{ready, call_ready, ledger_ready, of_object, of_other, of_nothing}
+use Rattle.call_file.proofs.Whole.{ready, call_ready, ledger_ready, of_object, of_nothing}
 use Rattle.call_file.proofs.read.read_call.Goals as goal
 
 pub returns-then-is_object-clause-value : goal.returns-then-is_object-clause-value

@@ -1,4 +1,4 @@
-use Rattle.std.proofs.Common.{sym, ap, ◌∙◌, ◌≡◌, List, map, Some, ◌≤◌, ◌<◌, length, arith}
+use Rattle.std.proofs.Common.{sym, ap, ◌∙◌, List, map, Some, arith}
 use Rattle.serde_json.specs.View.{view}
 use Rattle.serde_json.specs.declared.value.Value.{Value}
 use Rattle.call_file.proofs.Items.{few_items, many_items}
