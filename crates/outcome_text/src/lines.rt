@@ -58,12 +58,7 @@ pub(crate) fn push_cost(alloc: Global, out: &mut Blob, spent: u64) -> Result<(),
 
 /// Appends how and where the run stopped.
 #[tactic(auto, unfolding(crate::specs::Text::stop_line))]
-pub(crate) fn push_stop(
-    alloc: Global,
-    out: &mut Blob,
-    how: &[u8],
-    pc: usize,
-) -> Result<(), Memory>
+pub(crate) fn push_stop(alloc: Global, out: &mut Blob, how: &[u8], pc: usize) -> Result<(), Memory>
     ensures { OnOk result (out.new ≡ out.old ++ stop_line how.now pc) }
 {
     out.extend(how)?;

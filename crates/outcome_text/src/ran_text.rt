@@ -23,12 +23,7 @@ fn push_stopped(
 }
 
 /// Appends an approval with its cost, its logs and its state.
-fn push_approved(
-    alloc: Global,
-    out: &mut Blob,
-    ledger: &Ledger,
-    spent: u64,
-) -> Result<(), Memory>
+fn push_approved(alloc: Global, out: &mut Blob, ledger: &Ledger, spent: u64) -> Result<(), Memory>
     ensures { OnOk result (out.new ≡ out.old ++ (codes "approved\n" ++ (cost_line spent ++ ledger_lines ledger.now))) }
 {
     out.extend(b"approved\n")?;

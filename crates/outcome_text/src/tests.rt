@@ -22,7 +22,10 @@ fn a_run_that_stops_names_its_place(rt: HostRuntime) -> Result<(), Fail> {
     let text = text_of(alloc, Outcome::Rejected)?;
     assert_eq!(rt; text.as_slice(), b"> rejected at 17\ncost 5\n".as_slice());
     let text = text_of(alloc, Outcome::OverBudget)?;
-    assert_eq!(rt; text.as_slice(), b"> over budget at 17\ncost 5\n".as_slice());
+    assert_eq!(rt;
+        text.as_slice(),
+        b"> over budget at 17\ncost 5\n".as_slice()
+    );
     let text = text_of(alloc, Outcome::OverDepth)?;
     assert_eq!(rt; text.as_slice(), b"> over depth at 17\ncost 5\n".as_slice());
     Ok(())
@@ -53,7 +56,11 @@ fn ledger_of(alloc: Global) -> Result<Ledger, Fail> {
     ledger.global_put(b"b", &Value::Bytes(Blob::new(alloc)))?;
     ledger.global_put(b"a", &Value::Int(7))?;
     ledger.opt_in(&[1, 1])?;
-    ledger.set_local(&[1, 1], b"k", &Value::Bytes(Blob::from_slice(alloc, &[10])?))?;
+    ledger.set_local(
+        &[1, 1],
+        b"k",
+        &Value::Bytes(Blob::from_slice(alloc, &[10])?),
+    )?;
     ledger.set_box(b"n", b"")?;
     Ok(ledger)
 }

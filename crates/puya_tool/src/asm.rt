@@ -8,7 +8,7 @@ ghost use Rattle.puya_tool.specs.Promise.{AnswersBy};
 ghost use Rattle.puya_tool.specs.Text.{answer_text};
 ghost use Rattle.puya_tool.specs.Words.{bin_name};
 
-use crate::answer::{Answer, Ready, with_text, unread};
+use crate::answer::{Answer, Ready, unread, with_text};
 use avm_asm::{AsmFault, Lines, assemble};
 use puya_base::{Blob, FileFault, Files, Memory, Name};
 use std::alloc::Global;
@@ -67,12 +67,7 @@ fn bin_of(alloc: Global, file: &str) -> Result<String, Memory>
 }
 
 /// The answers to a write, with their texts, before it is done.
-fn written<F: Files>(
-    alloc: Global,
-    name: &str,
-    code: &[u8],
-    files: &mut F,
-) -> Result<Ready, Memory>
+fn written<F: Files>(alloc: Global, name: &str, code: &[u8], files: &mut F) -> Result<Ready, Memory>
     ensures text { IfOk result (λ r. r.text ≡ answer_text r.answer) }
     ensures told { IfOk result (λ r. Told (F.contents files.old) (F.contents files.new) (λ old new. IsWritten old new name.now code.now r.answer)) }
     ensures cause { IfOk result (λ r. AnswersBy (F.faults files.old) (F.faults files.new) r.answer) }
@@ -96,11 +91,7 @@ fn written<F: Files>(
 }
 
 /// The answer to `asm`, once the code of the text is written.
-pub(crate) fn assembled<F: Files>(
-    alloc: Global,
-    file: &str,
-    files: &mut F,
-) -> Result<Ready, Memory>
+pub(crate) fn assembled<F: Files>(alloc: Global, file: &str, files: &mut F) -> Result<Ready, Memory>
     ensures text { IfOk result (λ r. r.text ≡ answer_text r.answer) }
     ensures due { IfOk result (λ r. Told (F.contents files.old) (F.contents files.new) (λ old new. AsmAnswers old new file.now r.answer)) }
     ensures cause { IfOk result (λ r. AnswersBy (F.faults files.old) (F.faults files.new) r.answer) }

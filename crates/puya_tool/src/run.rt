@@ -48,12 +48,7 @@ fn not_program(alloc: Global, file: &str, fault: ProgramFault) -> Result<Answer,
 }
 
 /// The answer once the program is read: its call file has this text.
-fn run_text(
-    alloc: Global,
-    program: &Program,
-    file: &str,
-    text: &[u8],
-) -> Result<Answer, Memory>
+fn run_text(alloc: Global, program: &Program, file: &str, text: &[u8]) -> Result<Answer, Memory>
     ensures { IfOk result (λ a. RunEnds program.now file.now text.now a) }
 {
     match saved_or(alloc, text, false)? {
@@ -90,11 +85,7 @@ pub(crate) fn ran<F: Files>(
 }
 
 /// The answer to `dis`.
-pub(crate) fn listed<F: Files>(
-    alloc: Global,
-    file: &str,
-    files: &mut F,
-) -> Result<Answer, Memory>
+pub(crate) fn listed<F: Files>(alloc: Global, file: &str, files: &mut F) -> Result<Answer, Memory>
     ensures due { IfOk result (λ a. IfSome (F.contents files.old) (λ held. DisAnswers held file.now a)) }
     ensures cause { IfOk result (λ a. AnswersBy (F.faults files.old) (F.faults files.new) a) }
     ensures later { F.faults files.old ≤ F.faults files.new }

@@ -25,9 +25,15 @@ fn call_file(
     completion: &str,
     budget: &str,
 ) -> Result<String, Fail> {
-    let act = format!(in alloc; "\"contract\":{contract},\"application\":1,\"creating\":false,\"on_completion\":{completion},\"args\":[]")?;
-    let origin = format!(in alloc; "\"sender\":\"{ADDRESS}\",\"fee\":0,\"note\":\"\",\"accounts\":[],\"boxes\":[]")?;
-    let setting = format!(in alloc; "\"round\":0,\"timestamp\":0,\"creator\":\"{ADDRESS}\",\"budget\":{budget}")?;
+    let act = format!(in alloc;
+        "\"contract\":{contract},\"application\":1,\"creating\":false,\"on_completion\":{completion},\"args\":[]"
+    )?;
+    let origin = format!(in alloc;
+        "\"sender\":\"{ADDRESS}\",\"fee\":0,\"note\":\"\",\"accounts\":[],\"boxes\":[]"
+    )?;
+    let setting = format!(in alloc;
+        "\"round\":0,\"timestamp\":0,\"creator\":\"{ADDRESS}\",\"budget\":{budget}"
+    )?;
     let ledger = "\"global\":[],\"opted\":[],\"local\":[],\"box\":[]";
     Ok(format!(in alloc; "{{{act},{origin},{setting},{ledger}}}")?)
 }
@@ -79,7 +85,11 @@ const BODIES: [(&str, Status, &str); 12] = [
         "rejected at 14\ncost 3\n",
     ),
     ("UInt64(6) - UInt64(7)", Status::Source, "t.py: not built\n"),
-    ("UInt64(06) * UInt64(7)", Status::Source, "t.py: not built\n"),
+    (
+        "UInt64(06) * UInt64(7)",
+        Status::Source,
+        "t.py: not built\n",
+    ),
     (
         "UInt64(18446744073709551616) * UInt64(7)",
         Status::Source,
@@ -110,13 +120,49 @@ fn one_operation_is_compiled_and_run(rt: HostRuntime) -> Result<(), Fail> {
 /// Contract, on-completion number and budget.
 const CALLS: [(&str, &str, &str, Status, &str); 10] = [
     ("\"T\"", "0", "0", Status::CallFile, "c.json: bad budget\n"),
-    ("\"T\"", "0", "11201", Status::CallFile, "c.json: bad budget\n"),
-    ("\"T\"", "0", "4.0", Status::CallFile, "c.json: bad budget\n"),
-    ("\"T\"", "6", "4", Status::CallFile, "c.json: bad on_completion\n"),
-    ("\"U\"", "0", "4", Status::CallFile, "c.json: bad contract\n"),
+    (
+        "\"T\"",
+        "0",
+        "11201",
+        Status::CallFile,
+        "c.json: bad budget\n",
+    ),
+    (
+        "\"T\"",
+        "0",
+        "4.0",
+        Status::CallFile,
+        "c.json: bad budget\n",
+    ),
+    (
+        "\"T\"",
+        "6",
+        "4",
+        Status::CallFile,
+        "c.json: bad on_completion\n",
+    ),
+    (
+        "\"U\"",
+        "0",
+        "4",
+        Status::CallFile,
+        "c.json: bad contract\n",
+    ),
     ("7", "0", "4", Status::CallFile, "c.json: bad contract\n"),
-    ("\"T\"", "0", "1", Status::Stopped, "over budget at 3\ncost 1\n"),
-    ("\"T\"", "0", "3", Status::Stopped, "over budget at 6\ncost 3\n"),
+    (
+        "\"T\"",
+        "0",
+        "1",
+        Status::Stopped,
+        "over budget at 3\ncost 1\n",
+    ),
+    (
+        "\"T\"",
+        "0",
+        "3",
+        Status::Stopped,
+        "over budget at 6\ncost 3\n",
+    ),
     ("\"T\"", "0", "4", Status::Done, "approved\ncost 4\n"),
     ("\"T\"", "3", "4", Status::Done, "approved\ncost 2\n"),
 ];
@@ -207,7 +253,12 @@ const RUNS: [(&[u8], &str, Status, &str); 8] = [
         Status::Rejected,
         "rejected at 1\ncost 1\n",
     ),
-    (&[0x0a], "11200", Status::Rejected, "rejected at 1\ncost 0\n"),
+    (
+        &[0x0a],
+        "11200",
+        Status::Rejected,
+        "rejected at 1\ncost 0\n",
+    ),
     (
         &[
             0x0a, 0x81, 0x01, 0x47, 0xff, 0x47, 0xff, 0x47, 0xff, 0x47, 0xff,
@@ -376,9 +427,13 @@ return
 fn the_state_of_an_approved_run_is_printed(rt: HostRuntime) -> Result<(), Fail> {
     let alloc = rt.alloc();
     let call = call_file(alloc, "null", "0", "700")?;
-    let call = call.as_str().replace(alloc, "\"boxes\":[]", "\"boxes\":[\"62\"]")?;
+    let call = call
+        .as_str()
+        .replace(alloc, "\"boxes\":[]", "\"boxes\":[\"62\"]")?;
     let opted = format!(in alloc; "\"opted\":[\"{ADDRESS}\"]")?;
-    let call = call.as_str().replace(alloc, "\"opted\":[]", opted.as_str())?;
+    let call = call
+        .as_str()
+        .replace(alloc, "\"opted\":[]", opted.as_str())?;
     let mut files = MemoryFiles::new(alloc);
     files.add("s", STORES.as_bytes())?;
     files.add("c.json", call.as_bytes())?;
@@ -387,7 +442,9 @@ fn the_state_of_an_approved_run_is_printed(rt: HostRuntime) -> Result<(), Fail> 
     let (status, text) = outcome(alloc, &["run", "s.bin", "c.json"], &mut files)?;
     assert_eq!(rt; status, Status::Done);
     let local = format!(in alloc; "local {ADDRESS} 7365656e 0x01ff\n")?;
-    let wanted = format!(in alloc; "approved\ncost 14\nlog \nglobal 636f756e74 7\n{local}box 62 31323334\n")?;
+    let wanted = format!(in alloc;
+        "approved\ncost 14\nlog \nglobal 636f756e74 7\n{local}box 62 31323334\n"
+    )?;
     assert_eq!(rt; text, wanted);
     Ok(())
 }
@@ -416,9 +473,7 @@ fn is_named(status: Status) -> bool {
 }
 
 #[test]
-fn each_front_of_a_text_and_of_a_call_file_ends_with_a_status(
-    rt: HostRuntime,
-) -> Result<(), Fail> {
+fn each_front_of_a_text_and_of_a_call_file_ends_with_a_status(rt: HostRuntime) -> Result<(), Fail> {
     let alloc = rt.alloc();
     let call = call_file(alloc, "null", "0", "700")?;
     let mut files = MemoryFiles::new(alloc);
