@@ -141,6 +141,9 @@ module _ (f : ℕ → ℕ → ℕ) (g : Bool → Bool → Bool) (agrees : Agrees
   pub set_after : members bits final ≡ zip2 g mine theirs
   set_after = ap (members bits) final_is ∙ combined_members f g agrees bits old other new changed on_lanes a other_row ∙ (λ i. zip2 g (mine_is i) (other_value i))
 
+  pub length_after : length (members bits final) ≡ length mine
+  length_after = length-members bits final ∙ sym (length-members bits old) ∙ ap length mine_is
+
   pub changed_after : (changed ≡ true → members bits final ≢ mine) × (members bits final ≢ mine → changed ≡ true)
   changed_after =
       let told = changed_set f g agrees bits old other new changed on_lanes a other_row in

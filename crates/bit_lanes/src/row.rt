@@ -62,6 +62,7 @@ impl BitRow {
     pub fn or_with(&mut self, other: &BitRow) -> bool
         requires { length other.now ≡ length self.old }
         ensures set { self.new ≡ union self.old other.now }
+        ensures bound { length self.new ≡ length self.old }
         ensures grew { IsTrue result ↔ (self.new ≢ self.old) }
     {
         combine::<Union>(&mut self.lanes, &other.lanes)
@@ -70,7 +71,8 @@ impl BitRow {
     /// Takes out what the other set has.
     pub fn and_not(&mut self, other: &BitRow)
         requires { length other.now ≡ length self.old }
-        ensures { self.new ≡ difference self.old other.now }
+        ensures set { self.new ≡ difference self.old other.now }
+        ensures bound { length self.new ≡ length self.old }
     {
         let _changed = combine::<Difference>(&mut self.lanes, &other.lanes);
     }
@@ -79,6 +81,7 @@ impl BitRow {
     pub fn and_with(&mut self, other: &BitRow) -> bool
         requires { length other.now ≡ length self.old }
         ensures set { self.new ≡ intersection self.old other.now }
+        ensures bound { length self.new ≡ length self.old }
         ensures shrank { IsTrue result ↔ (self.new ≢ self.old) }
     {
         combine::<Intersection>(&mut self.lanes, &other.lanes)
