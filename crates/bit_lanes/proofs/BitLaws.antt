@@ -1,12 +1,12 @@
 -- Bits of words, and the numbers of the set that lanes hold.
-use Rattle.std.proofs.Common.{◌≡◌, ◌≢◌, ◌⊎◌, ℕ, ◌+◌, ◌-◌, ◌*◌, ◌/◌, ◌%◌, ◌^◌, ◌<◌, ◌≤◌, min, max, Bool, true, false, not, ◌&&◌, ◌||◌, cond, eqb, List, [], ◌∷◌, map, length, get_or, set, bit_and, bit_or, refl, ap, sym, ◌∙◌, inl, inr, arith, w64, eqb-true, eq-eqb}
-use Rattle.std.proofs.lemmas.Bool.{cases_lt, cases_eq}
+use Rattle.std.proofs.Common.{◌≡◌, ◌⊎◌, ℕ, ◌+◌, ◌*◌, ◌/◌, ◌%◌, ◌^◌, ◌<◌, ◌≤◌, min, Bool, false, not, ◌&&◌, ◌||◌, eqb, List, length, get_or, bit_and, bit_or, refl, ap, sym, ◌∙◌, inl, inr, arith, w64}
+use Rattle.std.proofs.lemmas.Bool.{cases_eq}
 use Rattle.std.proofs.lemmas.List.{get_or_past, ext_get_or}
 use Rattle.std.proofs.lemmas.Nat.Bits.{bit_at-lt, bit_at-zero, bit_at_or, bit_at_and, bit_at_not, same_from_bits_below}
 use Rattle.std.proofs.lemmas.Nat.{or_lt, and_le_l}
 use Rattle.std.specs.Int.{bit_at, bit_not}
-use Rattle.bit_lanes.specs.Rows.{is_set, is_member, IsRow}
-use Rattle.bit_lanes.specs.Lanes.{Combined, without}
+use Rattle.bit_lanes.specs.Rows.{is_set, is_member}
+use Rattle.bit_lanes.specs.Lanes.{without}
 
 -- a bit is 0 or 1
 pub bit_cases : (n i : ℕ) → (bit_at n i ≡ 0) ⊎ (bit_at n i ≡ 1)
@@ -44,8 +44,8 @@ or_agrees = record {
   none = refl;
   fits = λ a b small other. or_lt 64 a b small other;
   bits = λ a b i _ _ _. ap (λ n. eqb n 1) (bit_at_or a b i) ∙ elim (bit_cases a i) [
-    | inl p ↦ elim (bit_cases b i) [ | inl q ↦ rw (p, q) refl | inr q ↦ rw (p, q) refl ]
-    | inr p ↦ elim (bit_cases b i) [ | inl q ↦ rw (p, q) refl | inr q ↦ rw (p, q) refl ]
+    | inl p ↦ elim (bit_cases b i) [ inl q ↦ rw (p, q) refl | inr q ↦ rw (p, q) refl ]
+    | inr p ↦ elim (bit_cases b i) [ inl q ↦ rw (p, q) refl | inr q ↦ rw (p, q) refl ]
   ];
 }
 
@@ -55,8 +55,8 @@ and_agrees = record {
   none = refl;
   fits = λ a b small _. omega (arith, and_le_l a b);
   bits = λ a b i _ _ _. ap (λ n. eqb n 1) (bit_at_and a b i) ∙ elim (bit_cases a i) [
-    | inl p ↦ elim (bit_cases b i) [ | inl q ↦ rw (p, q) refl | inr q ↦ rw (p, q) refl ]
-    | inr p ↦ elim (bit_cases b i) [ | inl q ↦ rw (p, q) refl | inr q ↦ rw (p, q) refl ]
+    | inl p ↦ elim (bit_cases b i) [ inl q ↦ rw (p, q) refl | inr q ↦ rw (p, q) refl ]
+    | inr p ↦ elim (bit_cases b i) [ inl q ↦ rw (p, q) refl | inr q ↦ rw (p, q) refl ]
   ];
 }
 
@@ -66,8 +66,8 @@ without_agrees = record {
   none = refl;
   fits = λ a b small _. omega (arith, and_le_l a (bit_not w64 b));
   bits = λ a b i _ fits within. ap (λ n. eqb n 1) (bit_at_and a (bit_not w64 b) i ∙ ap (λ n. min (bit_at a i) n) (bit_at_not w64 b i fits within)) ∙ elim (bit_cases a i) [
-    | inl p ↦ elim (bit_cases b i) [ | inl q ↦ rw (p, q) refl | inr q ↦ rw (p, q) refl ]
-    | inr p ↦ elim (bit_cases b i) [ | inl q ↦ rw (p, q) refl | inr q ↦ rw (p, q) refl ]
+    | inl p ↦ elim (bit_cases b i) [ inl q ↦ rw (p, q) refl | inr q ↦ rw (p, q) refl ]
+    | inr p ↦ elim (bit_cases b i) [ inl q ↦ rw (p, q) refl | inr q ↦ rw (p, q) refl ]
   ];
 }
 
@@ -85,6 +85,6 @@ pub lanes_from_members : (a b : List ℕ) → length a ≡ length b → Words a 
 unfolding is_member
 lanes_from_members a b even fa fb same =
     ext_get_or 0 a b even (λ k _. same_from_bits_below 64 (get_or a k 0) (get_or b k 0) (fa k) (fb k) (λ i within.
-        let lane : (64 * k + i) / 64 ≡ k = omega arith in
-        let place : (64 * k + i) % 64 ≡ i = omega arith in
-        bit_from_is_set (get_or a k 0) (get_or b k 0) i i (rw (lane, place) at (same (64 * k + i)))))
+    let lane : (64 * k + i) / 64 ≡ k = omega arith in
+    let place : (64 * k + i) % 64 ≡ i = omega arith in
+    bit_from_is_set (get_or a k 0) (get_or b k 0) i i (rw (lane, place) at (same (64 * k + i)))))

@@ -1,5 +1,5 @@
 -- How many numbers are in the set that lanes hold.
-use Rattle.std.proofs.Common.{◌≡◌, ℕ, ◌+◌, ◌-◌, ◌*◌, ◌/◌, ◌%◌, ◌^◌, ◌<◌, ◌≤◌, Bool, true, false, cond, List, [], ◌∷◌, ◌++◌, map, length, get_or, count_ones, refl, subst, ap, sym, ◌∙◌, inl, inr, arith}
+use Rattle.std.proofs.Common.{◌≡◌, ℕ, ◌+◌, ◌-◌, ◌*◌, ◌/◌, ◌%◌, ◌^◌, ◌<◌, ◌≤◌, Bool, false, cond, List, [], ◌∷◌, ◌++◌, map, length, get_or, count_ones, refl, subst, ap, sym, ◌∙◌, inl, inr, arith}
 use Rattle.std.proofs.lemmas.Bool.{cases_lt}
 use Rattle.std.proofs.lemmas.List.{ext_get_or, length-append, get_or_append_left, get_or-append_right, map-id}
 use Rattle.std.proofs.lemmas.List.FromFn.{length-map-range_with_len, get_or-map-range_with_len}
@@ -38,7 +38,7 @@ none_in (x ∷ xs) = rw (none_in xs) refl
 -- a word's bits
 bit_from_test : (x i : ℕ) → cond (is_set x i) 1 0 ≡ bit_at x i
 unfolding is_set
-bit_from_test x i = elim (bit_cases x i) [ | inl p ↦ rw p refl | inr p ↦ rw p refl ]
+bit_from_test x i = elim (bit_cases x i) [ inl p ↦ rw p refl | inr p ↦ rw p refl ]
 
 word_size : (x : ℕ) → x < 2 ^ 64 → size (map (is_set x) (range_with_len 0 64)) ≡ count_ones x
 word_size x fits =
@@ -46,7 +46,7 @@ word_size x fits =
     let long : length bits ≡ 64 = length-map-range_with_len (is_set x) 0 64 in
     let small : mask_l bits < 2 ^ 64 = subst (λ n. mask_l bits < 2 ^ n) long (mask_l-lt bits) in
     let same : mask_l bits ≡ x = same_from_bits_below 64 (mask_l bits) x small fits (λ i lt.
-        bit_mask_l bits i ∙ ap (λ b. cond b 1 0) (get_or-map-range_with_len (is_set x) 0 64 i i false lt (omega arith)) ∙ bit_from_test x i) in
+    bit_mask_l bits i ∙ ap (λ b. cond b 1 0) (get_or-map-range_with_len (is_set x) 0 64 i i false lt (omega arith)) ∙ bit_from_test x i) in
     sym (ones-mask_l (λ b. b) bits) ∙ ap (λ l. count_ones (mask_l l)) (map-id bits) ∙ ap count_ones same
 
 in_lane : (lanes : List ℕ) (k i : ℕ) → i < 64 → is_member lanes (64 * k + i) ≡ is_set (get_or lanes k 0) i
@@ -64,10 +64,10 @@ size_more lanes k fits =
     let lane = map (λ i. is_member lanes (64 * k + i)) (range_with_len 0 64) in
     let word = map (is_set (get_or lanes k 0)) (range_with_len 0 64) in
     let same : lane ≡ word = ext_get_or false lane word
-        (length-map-range_with_len (λ i. is_member lanes (64 * k + i)) 0 64 ∙ sym (length-map-range_with_len (is_set (get_or lanes k 0)) 0 64))
-        (λ i lt. let below : i < 64 = omega (arith, length-map-range_with_len (λ j. is_member lanes (64 * k + j)) 0 64) in
-            get_or-map-range_with_len (λ j. is_member lanes (64 * k + j)) 0 64 i i false below (omega arith) ∙ in_lane lanes k i below
-            ∙ sym (get_or-map-range_with_len (is_set (get_or lanes k 0)) 0 64 i i false below (omega arith))) in
+    (length-map-range_with_len (λ i. is_member lanes (64 * k + i)) 0 64 ∙ sym (length-map-range_with_len (is_set (get_or lanes k 0)) 0 64))
+    (λ i lt. let below : i < 64 = omega (arith, length-map-range_with_len (λ j. is_member lanes (64 * k + j)) 0 64) in
+    get_or-map-range_with_len (λ j. is_member lanes (64 * k + j)) 0 64 i i false below (omega arith) ∙ in_lane lanes k i below
+    ∙ sym (get_or-map-range_with_len (is_set (get_or lanes k 0)) 0 64 i i false below (omega arith))) in
     ap (λ n. size (map (is_member lanes) (range_with_len 0 n))) next ∙ size_split (is_member lanes) (64 * k) 64
     ∙ ap (λ n. size (map (is_member lanes) (range_with_len 0 (64 * k))) + n) (ap size same ∙ word_size (get_or lanes k 0) fits)
 
@@ -78,7 +78,7 @@ size_past bits lanes row n past =
     let back : n ≡ bits + (n - bits) = omega arith in
     ap (λ m. size (map (is_member lanes) (range_with_len 0 m))) back ∙ size_split (is_member lanes) bits (n - bits)
     ∙ ap (λ m. size (map (is_member lanes) (range_with_len 0 bits)) + m)
-      ((λ j. size (map (λ i. row.clear (bits + i) (omega arith) j) (range_with_len 0 (n - bits)))) ∙ none_in (range_with_len 0 (n - bits)))
+    ((λ j. size (map (λ i. row.clear (bits + i) (omega arith) j) (range_with_len 0 (n - bits)))) ∙ none_in (range_with_len 0 (n - bits)))
     ∙ omega arith
 
 pub size_le : (bits : ℕ) (lanes : List ℕ) → IsRow bits lanes → (n : ℕ) → size (members n lanes) ≤ bits
@@ -93,7 +93,6 @@ unfolding members
 none_counted lanes = refl
 
 module _ (bits : ℕ) (lanes items : List ℕ) (row : IsRow bits lanes) (items_is : items ≡ lanes) (k total : ℕ) (so_far : total ≡ size (members (64 * k) items)) where
-
   items_row : IsRow bits items
   items_row = subst (IsRow bits) (sym items_is) row
 

@@ -1,5 +1,5 @@
 -- Rows combined piece by piece.
-use Rattle.std.proofs.Common.{◌≡◌, ◌≢◌, ℕ, ◌+◌, ◌-◌, ◌*◌, ◌%◌, ◌^◌, ◌<◌, ◌≤◌, Bool, true, false, ◌||◌, not, List, [], ◌∷◌, map, length, get_or, eqb, cond, refl, ap, sym, ◌∙◌, inl, inr, arith, w64, eqb-true, eq-eqb, ne_eqb}
+use Rattle.std.proofs.Common.{◌≡◌, ◌≢◌, ℕ, ◌+◌, ◌-◌, ◌%◌, ◌^◌, ◌<◌, ◌≤◌, Bool, true, false, ◌||◌, not, List, [], ◌∷◌, map, length, get_or, eqb, cond, refl, ap, sym, ◌∙◌, inl, inr, arith, w64, eqb-true, eq-eqb, ne_eqb}
 use Rattle.std.proofs.lemmas.Bool.{cases_lt, cases_eq}
 use Rattle.std.proofs.lemmas.List.{ext_get_or}
 use Rattle.std.specs.Simd.Lanes.{zip2, chunk, put_chunk, mask_l, top}
@@ -26,7 +26,6 @@ combined_none f start old other = record {
 module _ (f : ℕ → ℕ → ℕ) (start middle end : ℕ) (old other between new : List ℕ) (first second : Bool)
     (a : Combined f start middle old other between first) (b : Combined f middle end between other new second)
     (low : start ≤ middle) (high : middle ≤ end) where
-
   same_between : new ≡ old → between ≡ old
   same_between same = ext_get_or 0 between old a.long (λ i _. elim (cases_lt i middle) [
     | inl lt ↦ sym (b.before i lt) ∙ ap (λ l. get_or l i 0) same
@@ -50,6 +49,7 @@ module _ (f : ℕ → ℕ → ℕ) (start middle end : ℕ) (old other between n
       differs true q x y is same = x refl (same_between same)
       differs false true x y is same = y refl (same ∙ sym (same_between same))
       differs false false x y is same = absurd (cc is)
+
       stays : (p q : Bool) → (p ≡ false → between ≡ old) → (q ≡ false → new ≡ between) → (p || q) ≡ false → new ≡ old
       stays true q x y is = absurd (cc is)
       stays false true x y is = absurd (cc is)
@@ -66,11 +66,11 @@ combined_group f n at old other new group changed room even made stored differs 
     let other_long = length-chunk at n other (omega arith) in
     let long : length group ≡ n = ap length made ∙ length-zip2 f (chunk at n old) (chunk at n other) (omega arith) ∙ old_long in
     let inside : (k : ℕ) → at ≤ k → k < at + n → get_or new k 0 ≡ get_or group (k - at) 0 = λ k from to.
-        let back : at + (k - at) ≡ k = omega arith in
-        ap (λ l. get_or l k 0) stored ∙ ap (λ j. get_or (put_chunk at old group) j 0) (sym back) ∙ get_or-put_chunk_at at old group (k - at) 0 (omega arith) (omega arith)
+    let back : at + (k - at) ≡ k = omega arith in
+    ap (λ l. get_or l k 0) stored ∙ ap (λ j. get_or (put_chunk at old group) j 0) (sym back) ∙ get_or-put_chunk_at at old group (k - at) 0 (omega arith) (omega arith)
     in
     let loaded : (xs : List ℕ) (k : ℕ) → at ≤ k → k < at + n → get_or (chunk at n xs) (k - at) 0 ≡ get_or xs k 0 = λ xs k from to.
-        get_or-chunk at n xs (k - at) 0 (omega arith) ∙ ap (λ j. get_or xs j 0) (omega arith)
+    get_or-chunk at n xs (k - at) 0 (omega arith) ∙ ap (λ j. get_or xs j 0) (omega arith)
     in
     let before : (k : ℕ) → k < at → get_or new k 0 ≡ get_or old k 0 = λ k lt. ap (λ l. get_or l k 0) stored ∙ get_or-put_chunk_below at old group k 0 lt in
     let after : (k : ℕ) → at + n ≤ k → get_or new k 0 ≡ get_or old k 0 = λ k ge. ap (λ l. get_or l k 0) stored ∙ get_or-put_chunk_above at old group k 0 (omega arith) in
@@ -123,8 +123,8 @@ pub groups_differ : (xs ys : List ℕ) → length xs ≡ length ys → length ys
     → (changed ≡ true → xs ≢ ys) × (changed ≡ false → xs ≡ ys)
 groups_differ xs ys even small changed is =
     let mask : mask_l (map (top 63) (zip2 (λ a b. cond (not (eqb a b)) (2 ^ 64 - 1) 0) xs ys)) % 2 ^ 64 ≡ differing xs ys =
-        ap (λ ms. mask_l ms % 2 ^ 64) (tops_compared w64 (λ a b. not (eqb a b)) xs ys)
-        ∙ mask_l-mod (zip2 (λ a b. not (eqb a b)) xs ys) 64 (omega (arith, length-zip2 (λ a b. not (eqb a b)) xs ys even)) in
+    ap (λ ms. mask_l ms % 2 ^ 64) (tops_compared w64 (λ a b. not (eqb a b)) xs ys)
+    ∙ mask_l-mod (zip2 (λ a b. not (eqb a b)) xs ys) 64 (omega (arith, length-zip2 (λ a b. not (eqb a b)) xs ys even)) in
     let flag : changed ≡ not (eqb (differing xs ys) 0) = is ∙ ap (λ n. not (eqb n 0)) mask in (
       λ yes same. let none : differing xs ys ≡ 0 = ap (λ l. differing l ys) same ∙ same_lanes ys in
           absurd (let clash : changed ≡ false = flag ∙ ap not (eq-eqb _ _ none) in cc (yes, clash)),

@@ -1,5 +1,5 @@
 -- What a row of lanes holds, as a list of truth values.
-use Rattle.std.proofs.Common.{◌≡◌, ◌≢◌, ℕ, ◌+◌, ◌-◌, ◌*◌, ◌/◌, ◌%◌, ◌^◌, ◌<◌, ◌≤◌, Bool, true, false, List, map, length, get_or, set, replicate, bit_and, bit_or, refl, ap, sym, ◌∙◌, inl, inr, arith, w64, subst, eqb}
+use Rattle.std.proofs.Common.{◌≡◌, ◌≢◌, ℕ, ◌+◌, ◌*◌, ◌/◌, ◌%◌, ◌^◌, ◌<◌, ◌≤◌, Bool, true, false, List, map, length, get_or, set, replicate, bit_and, bit_or, refl, ap, sym, ◌∙◌, inl, inr, arith, w64, subst, eqb}
 use Rattle.std.proofs.lemmas.Bool.{cases_lt, cases_eq}
 use Rattle.std.proofs.lemmas.List.{get_or_past, get_or_read, ext_get_or, get_or-set_same, get_or-set_other, length-set, get_or-replicate, length-replicate}
 use Rattle.std.proofs.lemmas.List.FromFn.{length-map-range_with_len, get_or-map-range_with_len}
@@ -8,7 +8,7 @@ use Rattle.std.proofs.lemmas.Nat.{or_lt, and_le_l}
 use Rattle.std.proofs.lemmas.Option.{slice_get-get_or}
 use Rattle.std.proofs.lemmas.Simd.{zip2-map}
 use Rattle.std.specs.Prelude.{Decides, Some, slice_get}
-use Rattle.std.specs.Int.{bit_at, bit_not}
+use Rattle.std.specs.Int.{bit_not}
 use Rattle.std.specs.List.{range_with_len}
 use Rattle.std.specs.Simd.Lanes.{zip2}
 use Rattle.bit_lanes.specs.Rows.{is_set, is_member, members, IsRow}
@@ -35,7 +35,7 @@ pub empty_members : (bits n : ℕ) → members bits (replicate n 0) ≡ replicat
 empty_members bits n =
     ext_get_or false (members bits (replicate n 0)) (replicate bits false) (length-members bits (replicate n 0) ∙ sym (length-replicate bits false))
     (λ i lt. let within : i < bits = omega (arith, length-members bits (replicate n 0)) in
-        get_or-members bits (replicate n 0) i within ∙ empty_member n i ∙ sym (get_or-replicate bits i false false within))
+    get_or-members bits (replicate n 0) i within ∙ empty_member n i ∙ sym (get_or-replicate bits i false false within))
 
 pub empty_row : (bits n : ℕ) → bits < 2 ^ 64 → bits ≤ 64 * n → 64 * n < bits + 64 → IsRow bits (replicate n 0)
 empty_row bits n small enough least = record {
@@ -82,7 +82,6 @@ same_decides bits other_bits old other first second mine theirs answer a b mine_
 -- ---- two rows combined
 module _ (f : ℕ → ℕ → ℕ) (g : Bool → Bool → Bool) (agrees : Agrees f g) (bits : ℕ) (old other new : List ℕ) (changed : Bool)
     (c : Combined f 0 (length old) old other new changed) (a : IsRow bits old) (b : IsRow bits other) where
-
   combined_member : (i : ℕ) → is_member new i ≡ g (is_member old i) (is_member other i)
   unfolding is_member
   combined_member i = elim (cases_lt (i / 64) (length old)) as (λ _. is_member new i ≡ g (is_member old i) (is_member other i)) [
@@ -122,7 +121,6 @@ module _ (f : ℕ → ℕ → ℕ) (g : Bool → Bool → Bool) (agrees : Agrees
 module _ (f : ℕ → ℕ → ℕ) (g : Bool → Bool → Bool) (agrees : Agrees f g) (bits other_bits : ℕ) (old other into from new final : List ℕ) (changed : Bool) (mine theirs : List Bool)
     (c : Combined f 0 (length into) into from new changed) (into_is : into ≡ old) (from_is : from ≡ other) (final_is : final ≡ new)
     (a : IsRow bits old) (b : IsRow other_bits other) (mine_is : members bits old ≡ mine) (theirs_is : members other_bits other ≡ theirs) (even : length theirs ≡ length mine) where
-
   even_bits : other_bits ≡ bits
   even_bits = same_bits bits other_bits old other mine theirs mine_is theirs_is even
 
@@ -155,7 +153,6 @@ module _ (f : ℕ → ℕ → ℕ) (g : Bool → Bool → Bool) (agrees : Agrees
 -- ---- one number put in or taken out
 module _ (bits : ℕ) (lanes : List ℕ) (i word : ℕ) (flag : Bool) (within : i < bits) (row : IsRow bits lanes) (fits : word < 2 ^ 64)
     (here : is_set word (i % 64) ≡ flag) (others : (j : ℕ) → j < 64 → j ≢ i % 64 → is_set word j ≡ is_set (get_or lanes (i / 64) 0) j) where
-
   inside : i / 64 < length lanes
   inside = omega (arith, row.enough)
 
@@ -180,11 +177,11 @@ module _ (bits : ℕ) (lanes : List ℕ) (i word : ℕ) (flag : Bool) (within : 
       ext_get_or false (members bits new) (set (members bits lanes) i flag)
       (length-members bits new ∙ sym (length-set (members bits lanes) i flag ∙ length-members bits lanes))
       (λ j lt. let below : j < bits = omega (arith, length-members bits new) in
-          get_or-members bits new j below ∙ elim (cases_eq j i) [
-            | inl at ↦ ap (is_member new) at ∙ changed_here ∙ sym (get_or-set_same (members bits lanes) i flag false (omega (arith, length-members bits lanes)))
-                ∙ ap (λ k. get_or (set (members bits lanes) i flag) k false) (sym at)
-            | inr apart ↦ kept_elsewhere j apart ∙ sym (get_or-members bits lanes j below) ∙ sym (get_or-set_other (members bits lanes) i j flag false apart)
-          ])
+      get_or-members bits new j below ∙ elim (cases_eq j i) [
+        | inl at ↦ ap (is_member new) at ∙ changed_here ∙ sym (get_or-set_same (members bits lanes) i flag false (omega (arith, length-members bits lanes)))
+            ∙ ap (λ k. get_or (set (members bits lanes) i flag) k false) (sym at)
+        | inr apart ↦ kept_elsewhere j apart ∙ sym (get_or-members bits lanes j below) ∙ sym (get_or-set_other (members bits lanes) i j flag false apart)
+      ])
 
   pub changed_row : IsRow bits (set lanes (i / 64) word)
   changed_row = record {
@@ -222,7 +219,6 @@ lane_within bits i lanes value row value_is within = omega (arith, row.enough, l
 -- a number put in or taken out, of what the code holds
 module _ (bits : ℕ) (lanes : List ℕ) (i : ℕ) (value : List Bool) (row : IsRow bits lanes) (value_is : members bits lanes ≡ value) (within : i < length value)
     (word : ℕ) (word_is : word ≡ get_or lanes (i / 64) word) where
-
   below : i < bits
   below = omega (arith, length-members bits lanes, ap length value_is)
 
@@ -261,5 +257,5 @@ module _ (bits : ℕ) (lanes : List ℕ) (i : ℕ) (value : List Bool) (row : Is
   unfolding is_set is_member
   told_member =
       let read : is_member lanes i ≡ eqb (bit_and (word / 2 ^ (i % 64)) 1) 1 =
-          ap (λ x. is_set x (i % 64)) (sym lane_is) ∙ ap (λ n. eqb n 1) (sym (shr_and_one word (i % 64))) in
+      ap (λ x. is_set x (i % 64)) (sym lane_is) ∙ ap (λ n. eqb n 1) (sym (shr_and_one word (i % 64))) in
       slice_get-get_or value i false within ∙ ap Some (ap (λ l. get_or l i false) (sym value_is) ∙ get_or-members bits lanes i below ∙ read)

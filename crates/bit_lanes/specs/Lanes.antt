@@ -1,5 +1,5 @@
 -- Two rows of lanes of 64 bits combined lane by lane (Rust's u64 and its portable SIMD, `std::simd`).
-use Rattle.std.specs.Prelude.{◌≡◌, ◌≢◌, ℕ, ◌^◌, ◌-◌, ◌<◌, ◌≤◌, Bool, true, false, List, length, slice_index, bit_and}
+use Rattle.std.specs.Prelude.{◌≡◌, ◌≢◌, ℕ, ◌<◌, ◌≤◌, Bool, true, false, List, length, slice_index, bit_and}
 use Rattle.std.specs.Int.{bit_not, w64}
 
 -- the bits of the first word that the second has not

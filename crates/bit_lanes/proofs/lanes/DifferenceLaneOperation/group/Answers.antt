@@ -1,4 +1,4 @@
-use Rattle.std.proofs.Common.{bit_and, sym, w64}
+use Rattle.std.proofs.Common.{bit_and, w64}
 use Rattle.std.specs.Int.{bit_not}
 use Rattle.bit_lanes.proofs.LaneLaws.{zip2-map_right}
 use Rattle.bit_lanes.proofs.lanes.DifferenceLaneOperation.group.Goals as goal

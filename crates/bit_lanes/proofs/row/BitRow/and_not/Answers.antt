@@ -1,8 +1,8 @@
-use Rattle.std.proofs.Common.{length, ap, bit_or, bit_and, ◌||◌, ◌&&◌, not, ◌∙◌, sym}
+use Rattle.std.proofs.Common.{length, ap, ◌&&◌, not, ◌∙◌, sym}
 use Rattle.std.proofs.lemmas.List.{with_items_is}
 use Rattle.bit_lanes.specs.Lanes.{without}
 use Rattle.bit_lanes.proofs.BitLaws.{without_agrees}
-use Rattle.bit_lanes.proofs.RowLaws.{same_lengths, row_after, length_after, set_after, changed_after}
+use Rattle.bit_lanes.proofs.RowLaws.{same_lengths, row_after, length_after, set_after}
 use Rattle.bit_lanes.proofs.row.BitRow.and_not.Goals as goal
 
 pub combine-changed-requires : goal.combine-changed-requires

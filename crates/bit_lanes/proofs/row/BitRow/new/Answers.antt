@@ -1,5 +1,4 @@
-use Rattle.std.proofs.Common.{◌≡◌, ◌+◌, ◌*◌, ◌<◌, ◌≤◌, ℕ, replicate, arith}
-use Rattle.bit_lanes.specs.Rows.{IsRow}
+use Rattle.std.proofs.Common.{◌≡◌, replicate, arith}
 use Rattle.bit_lanes.proofs.RowLaws.{empty_row, empty_members}
 use Rattle.bit_lanes.proofs.row.BitRow.new.Goals as goal
 

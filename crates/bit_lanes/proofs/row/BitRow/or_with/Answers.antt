@@ -1,6 +1,5 @@
-use Rattle.std.proofs.Common.{length, ap, bit_or, bit_and, ◌||◌, ◌&&◌, not, ◌∙◌, sym}
+use Rattle.std.proofs.Common.{length, ap, bit_or, ◌||◌, ◌∙◌, sym}
 use Rattle.std.proofs.lemmas.List.{with_items_is}
-use Rattle.bit_lanes.specs.Lanes.{without}
 use Rattle.bit_lanes.proofs.BitLaws.{or_agrees}
 use Rattle.bit_lanes.proofs.RowLaws.{same_lengths, row_after, length_after, set_after, changed_after}
 use Rattle.bit_lanes.proofs.row.BitRow.or_with.Goals as goal

@@ -1,4 +1,4 @@
-use Rattle.std.proofs.Common.{◌/◌, ◌<◌, sym, ap, subst}
+use Rattle.std.proofs.Common.{◌/◌, ◌<◌, sym, subst}
 use Rattle.bit_lanes.proofs.RowLaws.{lane_within, row_with, set_with}
 use Rattle.bit_lanes.proofs.row.BitRow.set.Goals as goal
 
