@@ -1,0 +1,4 @@
+pub mod LaneLaws
+pub mod BitLaws
+pub mod RowLaws
+pub mod CountLaws

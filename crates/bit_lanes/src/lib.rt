@@ -1,0 +1,9 @@
+//! Sets of numbers below a bound, kept as rows of bits in lanes of 64 and combined four lanes at a time.
+#![tactic(auto)]
+
+mod lanes;
+mod row;
+#[cfg(test)]
+mod tests;
+
+pub use row::BitRow;
