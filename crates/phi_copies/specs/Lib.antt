@@ -1,0 +1,4 @@
+pub mod Parallel
+pub mod Paths
+pub mod Cycles
+pub mod Waiting
