@@ -1,12 +1,12 @@
 -- How many moves there are: one for each pair, and one more for each path that runs into a cycle.
-use Rattle.std.proofs.Common.{◌≡◌, ℕ, suc, ◌+◌, List, [], ◌∷◌, ◌++◌, length, refl, sym, ◌∙◌, ap, subst, inl, inr, arith, length-append, append_assoc}
-use Rattle.std.specs.Prelude.{Bool, true, false, not, ◌&&◌, ◌||◌, ◌⊎◌, if◌then◌else◌, nat_eq, Option, Some, None}
+use Rattle.std.proofs.Common.{◌≡◌, ℕ, suc, ◌+◌, List, [], ◌∷◌, ◌++◌, length, refl, sym, ◌∙◌, ap, subst, inl, inr, arith, length-append}
+use Rattle.std.specs.Prelude.{Bool, true, false, not, ◌||◌, if◌then◌else◌, nat_eq, Some, None}
 use Rattle.std.specs.Map.{lookup}
-use Rattle.std.proofs.lemmas.Bool.{cases_eq, cases_Bool, eq-eqb, ne_eqb, cond-true, cond-false, and_from, or_from, or_parts, both_ways, false≢true}
+use Rattle.std.proofs.lemmas.Bool.{cases_eq, cases_Bool, eq-eqb, ne_eqb, cond-true, cond-false, and_from, or_from, both_ways, false≢true}
 use Rattle.phi_copies.specs.declared.copies.Pair.{Pair}
 use Rattle.phi_copies.specs.Parallel.{writes, no_two_write_one}
-use Rattle.phi_copies.specs.Paths.{Sources, with_pair, with_pairs, Leads, Fresh, Followed, closing, moves_of}
-use Rattle.phi_copies.specs.Cycles.{proper, has, AllAmong, IsCycle, EachIsCycle, joined, OneMorePerCycle}
+use Rattle.phi_copies.specs.Paths.{Sources, with_pair, with_pairs, Fresh, Followed, closing, moves_of}
+use Rattle.phi_copies.specs.Cycles.{Leads, proper, AllAmong, IsCycle, EachIsCycle, joined, OneMorePerCycle}
 use Rattle.phi_copies.specs.Waiting.{IsWithin, IsWaiting}
 use Rattle.phi_copies.proofs.Laws.{put_here, clash, NotIn, none_before, none_below, not_in, with_apart, fresh_within}
 use Rattle.phi_copies.proofs.Following.{own_source}

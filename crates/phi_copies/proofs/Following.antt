@@ -1,9 +1,10 @@
 -- A path that grows by the next pair, and what a whole path leaves.
-use Rattle.std.proofs.Common.{◌≡◌, ℕ, List, [], ◌∷◌, ◌++◌, refl, sym, ◌∙◌, ap, subst, inl, inr}
-use Rattle.std.specs.Prelude.{Bool, true, false, ◌⊎◌, nat_eq, cond, Option, Some, None}
+use Rattle.std.proofs.Common.{◌≡◌, ℕ, List, [], ◌∷◌, ◌++◌, refl, sym, ◌∙◌, ap, inl, inr}
+use Rattle.std.specs.Prelude.{nat_eq, cond, Some, None}
 use Rattle.std.proofs.lemmas.Bool.{cases_eq, eq-eqb, ne_eqb, cond-true, cond-false}
 use Rattle.phi_copies.specs.declared.copies.Pair.{Pair}
-use Rattle.phi_copies.specs.Paths.{Sources, with_pair, with_pairs, Leads, Fresh, Followed}
+use Rattle.phi_copies.specs.Cycles.{Leads}
+use Rattle.phi_copies.specs.Paths.{Sources, with_pair, with_pairs, Fresh, Followed}
 use Rattle.phi_copies.specs.Waiting.{IsFree}
 use Rattle.phi_copies.proofs.Laws.{put_here, put_apart, clash, none_below, not_in, with_apart, with_congr, fresh_within, with_last, leads_last, fresh_last}
 

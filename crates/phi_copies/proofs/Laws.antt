@@ -1,10 +1,11 @@
 -- Functions with another value at one place, and the partial maps of paths.
-use Rattle.std.proofs.Common.{◌≡◌, ℕ, List, [], ◌∷◌, ◌++◌, refl, sym, ◌∙◌, ap, subst, inl, inr}
-use Rattle.std.specs.Prelude.{Bool, true, false, ◌||◌, ◌⊎◌, nat_eq, Option, Some, None}
+use Rattle.std.proofs.Common.{◌≡◌, ℕ, List, [], ◌∷◌, ◌++◌, refl, sym, ◌∙◌, ap, inl, inr}
+use Rattle.std.specs.Prelude.{false, nat_eq, Option, Some, None}
 use Rattle.std.proofs.lemmas.Bool.{cases_eq, eq-eqb, ne_eqb, eqb-false, cond-true, cond-false, or_parts}
 use Rattle.phi_copies.specs.declared.copies.Pair.{Pair}
 use Rattle.phi_copies.specs.Parallel.{put, writes}
-use Rattle.phi_copies.specs.Paths.{Sources, with_pair, with_pairs, Leads, Fresh}
+use Rattle.phi_copies.specs.Cycles.{Leads}
+use Rattle.phi_copies.specs.Paths.{Sources, with_pair, with_pairs, Fresh}
 
 pub put_here : {A : Type 0} (f : ℕ → A) (at : ℕ) (a : A) (k : ℕ) → at ≡ k → put f at a k ≡ a
 put_here f at a k e = cond-true (nat_eq at k) a (f k) (eq-eqb at k e)

@@ -1,6 +1,6 @@
 -- The map of the pairs that are no self copies, pair by pair.
-use Rattle.std.proofs.Common.{◌≡◌, ℕ, List, [], ◌∷◌, ◌++◌, refl, sym, ◌∙◌, ap, subst, inl, inr, arith}
-use Rattle.std.specs.Prelude.{Bool, ◌+◌, length, true, false, not, ◌&&◌, ◌||◌, ◌⊎◌, nat_eq, cond, Option, Some, None}
+use Rattle.std.proofs.Common.{◌≡◌, ℕ, List, [], ◌∷◌, refl, sym, ◌∙◌, ap, subst, inl, inr, arith}
+use Rattle.std.specs.Prelude.{Bool, ◌+◌, length, true, false, not, ◌&&◌, ◌||◌, nat_eq, Some, None}
 use Rattle.std.proofs.lemmas.Bool.{cases_eq, eq-eqb, ne_eqb, eqb-false, cond-true, cond-false, and_parts, or_parts, or_right, or_left, not-true, both_ways, and_from}
 use Rattle.phi_copies.specs.declared.copies.Pair.{Pair}
 use Rattle.phi_copies.specs.Parallel.{Holding, put, at_once, writes, no_two_write_one, uses}
@@ -117,11 +117,16 @@ load_one pairs p rest w v entries more h proper_pair new len =
       only = λ k e. let o = h.only k e in let n = not_first p rest k o.1 in (apart k n.0 ∙ o.0, n.1);
       free = λ k e.
           let o = h.free k e in
-          let n = unused_parts p rest k o.1 in
-          ((apart k n.0 ∙ o.0.0, λ q i. elim (cases_eq p.to q) [
-            | inl j ↦ n.1 (let two : Some p.from ≡ Some k = sym (here q j) ∙ i in cc)
-            | inr ne ↦ o.0.1 q (sym (apart q ne) ∙ i)
-          ]), n.2);
+          let n = unused_parts p rest k o.1 in (
+            (
+              apart k n.0 ∙ o.0.0,
+              λ q i. elim (cases_eq p.to q) [
+                | inl j ↦ n.1 (let two : Some p.from ≡ Some k = sym (here q j) ∙ i in cc)
+                | inr ne ↦ o.0.1 q (sym (apart q ne) ∙ i)
+              ],
+            ),
+            n.2,
+          );
       within = λ k from e. elim (cases_eq p.to k) [
         | inl j ↦
             let two : Some p.from ≡ Some from = sym (here k j) ∙ e in

@@ -1,12 +1,13 @@
 -- The moves of a path do what its pairs do at once.
-use Rattle.std.proofs.Common.{◌≡◌, ℕ, List, [], ◌∷◌, ◌++◌, refl, sym, ◌∙◌, ap, subst, inl, inr}
-use Rattle.std.specs.Prelude.{Bool, true, false, ◌⊎◌, nat_eq, cond, Option, Some, None}
+use Rattle.std.proofs.Common.{◌≡◌, ℕ, List, [], ◌∷◌, refl, sym, ◌∙◌, ap, subst, inl, inr}
+use Rattle.std.specs.Prelude.{◌⊎◌, nat_eq, Some, None}
 use Rattle.std.proofs.lemmas.Bool.{cases_eq, eq-eqb, ne_eqb, cond-true, cond-false}
 use Rattle.phi_copies.specs.declared.copies.Pair.{Pair}
 use Rattle.phi_copies.specs.Parallel.{Holding, put, moved, one_by_one}
-use Rattle.phi_copies.specs.Paths.{Sources, with_pair, with_pairs, Leads, Fresh, closing, moves_of}
+use Rattle.phi_copies.specs.Cycles.{Leads}
+use Rattle.phi_copies.specs.Paths.{Sources, with_pair, with_pairs, Fresh, closing, moves_of}
 use Rattle.phi_copies.specs.Waiting.{value_by, after}
-use Rattle.phi_copies.proofs.Laws.{put_here, put_apart, none_before, none_below}
+use Rattle.phi_copies.proofs.Laws.{put_here, put_apart, none_before}
 use Rattle.phi_copies.proofs.Following.{Apart}
 
 -- the places hold the same outside the spare one

@@ -1,10 +1,10 @@
 -- Path by path, the moves behind come to do what all pairs do at once.
-use Rattle.std.proofs.Common.{◌≡◌, ℕ, List, [], ◌∷◌, ◌++◌, refl, sym, ◌∙◌, ap, subst, inl, inr}
-use Rattle.std.specs.Prelude.{Bool, true, false, ◌||◌, ◌⊎◌, nat_eq, reverse, Option, Some, None}
+use Rattle.std.proofs.Common.{◌≡◌, ℕ, List, [], ◌∷◌, ◌++◌, refl, sym, ◌∙◌, ap, inl, inr}
+use Rattle.std.specs.Prelude.{false, nat_eq, None}
 use Rattle.std.proofs.lemmas.Bool.{cases_eq, ne_eqb, or_from}
 use Rattle.phi_copies.specs.declared.copies.Pair.{Pair}
-use Rattle.phi_copies.specs.Parallel.{Holding, put, moved, one_by_one, at_once, writes, uses, Sequences}
-use Rattle.phi_copies.specs.Paths.{Sources, with_pairs, Followed, moves_of}
+use Rattle.phi_copies.specs.Parallel.{Holding, moved, one_by_one, at_once, writes, uses, Sequences}
+use Rattle.phi_copies.specs.Paths.{Sources, Followed, moves_of}
 use Rattle.phi_copies.specs.Waiting.{value_by, after, IsFree, IsWaiting}
 use Rattle.phi_copies.proofs.Laws.{none_below}
 use Rattle.phi_copies.proofs.Following.{path_apart, end_apart, stays_free, start_none}

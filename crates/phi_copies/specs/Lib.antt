@@ -1,4 +1,4 @@
 pub mod Parallel
-pub mod Paths
 pub mod Cycles
+pub mod Paths
 pub mod Waiting

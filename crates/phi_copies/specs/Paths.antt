@@ -2,6 +2,7 @@
 use Rattle.std.specs.Prelude.{◌≡◌, ℕ, Option, Some, None, if◌then◌else◌, nat_eq, List, [], ◌∷◌}
 use Rattle.phi_copies.specs.declared.copies.Pair.{Pair}
 use Rattle.phi_copies.specs.Parallel.{put}
+use Rattle.phi_copies.specs.Cycles.{Leads}
 
 -- the source of each place that still waits for one
 abbrev pub Sources : Type 0
@@ -15,11 +16,6 @@ with_pair p w = put w p.to (Some p.from)
 abbrev pub with_pairs : List Pair → Sources → Sources
 with_pairs [] w = w
 with_pairs (p ∷ ps) w = with_pairs ps (with_pair p w)
-
--- each pair reads what the next one writes: from the place that the first writes to the place that the last reads
-abbrev pub Leads : ℕ → List Pair → ℕ → Type 0
-Leads start [] end = start ≡ end
-Leads start (p ∷ ps) end = (p.to ≡ start) × Leads p.from ps end
 
 -- each pair writes a place that has no source yet, of the map or of an earlier pair
 abbrev pub Fresh : List Pair → Sources → Type 0

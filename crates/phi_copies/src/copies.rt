@@ -15,7 +15,7 @@ pub type Pairs = List<Pair>;
 /// Moves that are done one after another.
 pub type Moves = List<Pair>;
 
-/// Copies that happen at once, and a place of its own that their moves may use.
+/// Copies that happen at once, no two into one place, and a spare place, which is in none of them: a cycle goes through it.
 #[derive(Debug, Drop)]
 pub struct Copies {
     pub pairs: Pairs,

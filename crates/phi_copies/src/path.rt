@@ -17,7 +17,11 @@ pub(crate) struct Path {
 }
 
 /// Takes the path from `start` off the waiting pairs, given as a map from each place to its source.
-pub(crate) fn follow(alloc: Global, waiting: &mut IndexMap<u32, u32>, start: u32) -> Result<Path, Memory>
+pub(crate) fn follow(
+    alloc: Global,
+    waiting: &mut IndexMap<u32, u32>,
+    start: u32,
+) -> Result<Path, Memory>
     ensures path { IfOk result (λ path. Followed (get nat_eq waiting.old) (get nat_eq waiting.new) start path.pairs path.end) }
     ensures len { IfOk result (λ path. length path.pairs + index_map_len waiting.new ≡ index_map_len waiting.old) }
 {

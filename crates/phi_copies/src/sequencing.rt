@@ -8,7 +8,7 @@ ghost use Rattle.phi_copies.specs.Paths.{moves_of};
 ghost use Rattle.phi_copies.specs.Waiting.{IsWaiting};
 
 use crate::copies::{Copies, Moves, Pair};
-use crate::path::{follow, Path};
+use crate::path::{Path, follow};
 use crate::segment::moves_of;
 use indexmap::IndexMap;
 use puya_base::{List, Memory};
@@ -29,7 +29,12 @@ fn waiting_of(alloc: Global, pairs: &[Pair]) -> Result<IndexMap<u32, u32>, Memor
 }
 
 /// Adds the moves of a path, the last first.
-fn add_backwards(alloc: Global, backwards: &mut Vec<Pair>, path: Path, spare: u32) -> Result<(), Memory>
+fn add_backwards(
+    alloc: Global,
+    backwards: &mut Vec<Pair>,
+    path: Path,
+    spare: u32,
+) -> Result<(), Memory>
     ensures { OnOk result (backwards.new.items ≡ backwards.old.items ++ reverse (moves_of spare path.end path.pairs)) }
 {
     let mut moves = moves_of(alloc, path.pairs.as_slice(), path.end, spare)?;
@@ -38,7 +43,9 @@ fn add_backwards(alloc: Global, backwards: &mut Vec<Pair>, path: Path, spare: u3
     Ok(())
 }
 
-/// Moves that do, one after another, what the copies do at once; what the spare place holds may change.
+/// Moves that do, one after another, what the copies do at once; only what the spare place holds may differ. A self copy makes
+/// no move, each other copy one, and a cycle one more. The time is linear in the copies, with two look-ups for each. The error
+/// is want of memory.
 pub fn sequence(alloc: Global, copies: &Copies) -> Result<Moves, Memory>
     requires single { no_two_write_one copies.now.pairs ≡ true }
     requires apart { uses copies.now.spare copies.now.pairs ≡ false }

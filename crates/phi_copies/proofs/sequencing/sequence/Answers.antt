@@ -1,4 +1,4 @@
-use Rattle.std.proofs.Common.{◌≡◌, ◌+◌, ◌<◌, ◌≤◌, ◌++◌, List, [], ◌∷◌, nat_eq, get_or, drop, length, reverse, refl, sym, ◌∙◌, ap, subst, suc, arith, drop-cons, add-one}
+use Rattle.std.proofs.Common.{◌≡◌, ◌+◌, ◌<◌, ◌≤◌, ◌++◌, List, [], ◌∷◌, nat_eq, get_or, drop, length, reverse, refl, sym, ◌∙◌, ap, subst, drop-cons, add-one}
 use Rattle.std.proofs.lemmas.List.{drop_all, reverse-append, reverse-reverse}
 use Rattle.indexmap.specs.IndexMap.{get, index_map_len}
 use Rattle.phi_copies.specs.declared.copies.Pair.{Pair}

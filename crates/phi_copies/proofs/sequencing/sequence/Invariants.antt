@@ -1,6 +1,5 @@
-use Rattle.std.proofs.Common.{◌≡◌, ◌++◌, drop, reverse, nat_eq}
+use Rattle.std.proofs.Common.{drop, reverse, nat_eq}
 use Rattle.indexmap.specs.IndexMap.{get, index_map_len}
-use Rattle.phi_copies.specs.Parallel.{uses}
 use Rattle.phi_copies.proofs.Counting.{IsCounting}
 use Rattle.phi_copies.proofs.Turning.{IsTurning}
 use Rattle.phi_copies.proofs.sequencing.sequence.Given as goal
