@@ -21,7 +21,8 @@ fn waiting_of(alloc: Global, pairs: &[Pair]) -> Result<IndexMap<u32, u32>, Memor
 {
     let mut waiting = IndexMap::new(alloc);
     for p in pairs {
-        if p.to != p.from {
+        let is_proper = p.to != p.from;
+        if is_proper {
             waiting.insert(p.to, p.from)?;
         }
     }

@@ -6,7 +6,7 @@ use Rattle.indexmap.specs.IndexMap.{get, index_map_len}
 use Rattle.phi_copies.specs.declared.copies.Pair.{Pair}
 use Rattle.phi_copies.proofs.Loading.{IsLoading, load_none, load_self, load_one, loaded}
 use Rattle.phi_copies.proofs.sequencing.waiting_of.Goals as goal
-use Rattle.phi_copies.proofs.sequencing.waiting_of.Goals.{then-p+in_ok-insert, else-p}
+use Rattle.phi_copies.proofs.sequencing.waiting_of.Goals.{then-is_proper+in_ok-insert, else-is_proper}
 
 pub loop-p-init : goal.loop-p-init
 loop-p-init c =
@@ -24,11 +24,11 @@ loop-p-preserved c =
     let old = get nat_eq c.loop-p.waiting in
     let entries = index_map_len c.loop-p.waiting in
     let before = subst (λ q. IsLoading pairs q old entries) cut c.loop-p.invariant in
-    elim c.if-p.branch [
-      | then-p+in_ok-insert w ↦ subst (λ m. IsLoading pairs rest (get nat_eq m) (index_map_len m)) (sym w.waiting-is)
-          (load_one pairs p rest old (get nat_eq w.insert.new.self) entries (index_map_len w.insert.new.self) before w.if-p.true w.in_ok-insert.ensures.updates.0
+    elim c.if-is_proper.branch [
+      | then-is_proper+in_ok-insert w ↦ subst (λ m. IsLoading pairs rest (get nat_eq m) (index_map_len m)) (sym w.waiting-is)
+          (load_one pairs p rest old (get nat_eq w.insert.new.self) entries (index_map_len w.insert.new.self) before w.if-is_proper.true w.in_ok-insert.ensures.updates.0
           (λ e. w.in_ok-insert.ensures.len ∙ ap (λ (o : Option ℕ). entries + (if is_some o then 0 else 1)) (w.in_ok-insert.ensures.old ∙ e)))
-      | else-p w ↦ subst (λ m. IsLoading pairs rest (get nat_eq m) (index_map_len m)) (sym w.waiting-is) (load_self pairs p rest old entries before w.if-p.false)
+      | else-is_proper w ↦ subst (λ m. IsLoading pairs rest (get nat_eq m) (index_map_len m)) (sym w.waiting-is) (load_self pairs p rest old entries before w.if-is_proper.false)
     ]
 
 pub returns : goal.returns
