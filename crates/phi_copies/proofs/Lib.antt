@@ -1,0 +1,6 @@
+pub mod Laws
+pub mod Following
+pub mod Moving
+pub mod Loading
+pub mod Turning
+pub mod Counting

@@ -1,0 +1,4 @@
+pub mod Parallel
+pub mod Cycles
+pub mod Paths
+pub mod Waiting
