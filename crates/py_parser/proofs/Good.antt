@@ -67,7 +67,6 @@ is_found (found a) = true
 is_found missing = false
 
 the_found : {A : Type 0} {r : Rule A} (x : Found A r) → is_found x ≡ true → Sample A r
-unfolding is_found
 the_found (found a) e = a
 the_found missing e = absurd cc
 
