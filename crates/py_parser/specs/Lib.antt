@@ -5,3 +5,5 @@ pub mod Trees
 pub mod Grammar
 pub mod Derives
 pub mod Parser
+pub mod Whole
+pub mod Symbols
