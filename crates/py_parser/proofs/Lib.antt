@@ -1,0 +1,5 @@
+pub mod Outcomes
+pub mod Good
+pub mod Sets
+pub mod Complete
+pub mod Whole
