@@ -25,7 +25,7 @@ start_pair : {A B : Type 0} (r : Rule A) (s : Rule B) (u v : List Symbol) → St
 start_pair r s u v (begins_with l f) b = begins_with (omega (arith, length-append u v)) (λ i. peek_split u v i (first r ++ cond (null r) (first s) []) (has_left (peek (u ++ (v ++ i))) (first r) (cond (null r) (first s) []) (f (v ++ i))))
 start_pair r s u v (nothing eu nr) (begins_with l g) =
     begins_with (omega (arith, length-append u v)) (λ i. ap (λ w. has (peek ((w ++ v) ++ i)) (first r ++ cond (null r) (first s) [])) eu
-      ∙ ap (λ b. has (peek (v ++ i)) (first r ++ cond b (first s) [])) nr ∙ has_right (peek (v ++ i)) (first r) (first s) (g i))
+    ∙ ap (λ b. has (peek (v ++ i)) (first r ++ cond b (first s) [])) nr ∙ has_right (peek (v ++ i)) (first r) (first s) (g i))
 start_pair r s u v (nothing eu nr) (nothing ev ns) = nothing (ap (λ w. w ++ v) eu ∙ ev) (ap (λ b. b && null s) nr ∙ ns)
 
 start_sure : {A : Type 0} (r : Rule A) (u : List Symbol) → null r ≡ false → Start r u → (1 ≤ length u) × ((i : List Symbol) → has (peek (u ++ i)) (first r) ≡ true)
@@ -186,6 +186,7 @@ listed_starts (more_listed r x xs c u v t d e ds) p i = let b = plain_listed r p
 
 mutual
   unfolding parse parsers turns items height height_many height_listed
+
   pub complete : {A : Type 0} {r : Rule A} {x : A} {u : List Symbol} (d : Derives A r x u) → is_plain r ≡ true → (n : ℕ) → height d ≤ n → (i : List Symbol) → has (peek i) (on r) ≡ false → parse (parsers n) n r (u ++ i) ≡ took x i
   complete (a_symbol t k e) p n le i h = expected k t i e
   complete (a_part m x u d) p zero le i h = absurd (omega arith)
@@ -194,35 +195,35 @@ mutual
       let b = plain_pair r s p in
       let f : has (peek (v ++ i)) (on r) ≡ false = follows s (on r) v i (start d' b.2) b.0 h in
       ap (parse (parsers n) n r >>= (λ x. (λ y. (x, y)) <$> parse (parsers n) n s)) (append_assoc u v i)
-        ∙ ap (λ o. and_then o (λ x. (λ y. (x, y)) <$> parse (parsers n) n s)) (complete d b.1 n (omega arith) (v ++ i) f)
-        ∙ ap (λ o. and_then o (λ y. pure (x, y))) (complete d' b.2 n (omega arith) i (not_left (peek i) (on s) (cond (null s) (on r) []) h))
+      ∙ ap (λ o. and_then o (λ x. (λ y. (x, y)) <$> parse (parsers n) n s)) (complete d b.1 n (omega arith) (v ++ i) f)
+      ∙ ap (λ o. and_then o (λ y. pure (x, y))) (complete d' b.2 n (omega arith) i (not_left (peek i) (on s) (cond (null s) (on r) []) h))
   complete (the_first r s x u d) p n le i h =
       let b = plain_either r s p in
       chosen_first (first r) (parse (parsers n) n r) (parse (parsers n) n s) (u ++ i) ((start_sure r u b.1 (start d b.3)).1 i) ∙ complete d b.3 n le i (not_left (peek i) (on r) (on s) h)
   complete (the_second r s x u d) p n le i h =
       let b = plain_either r s p in
       chosen_second (first r) (parse (parsers n) n r) (parse (parsers n) n s) (u ++ i) (not_apart (peek (u ++ i)) (first r) (first s) b.0 ((start_sure s u b.2 (start d b.4)).1 i))
-        ∙ complete d b.4 n le i (not_right (peek i) (on r) (on s) h)
+      ∙ complete d b.4 n le i (not_right (peek i) (on r) (on s) h)
   complete (absent r) p n le i h = chosen_second (first r) ((λ x. Some x) <$> parse (parsers n) n r) (pure None) i (not_left (peek i) (first r) (on r) h)
   complete (present r x u d) p n le i h =
       let b = plain_maybe r p in
       chosen_first (first r) ((λ x. Some x) <$> parse (parsers n) n r) (pure None) (u ++ i) ((start_sure r u b.0 (start d b.1)).1 i)
-        ∙ ap (λ o. and_then o (λ x. pure (Some x))) (complete d b.1 n le i (not_right (peek i) (first r) (on r) h))
+      ∙ ap (λ o. and_then o (λ x. pure (Some x))) (complete d b.1 n le i (not_right (peek i) (first r) (on r) h))
   complete (repeated r xs u ds) p n le i h = complete_many ds p n n le le i h
   complete (in_a_list r xs c u ds) p n le i h = complete_listed ds p n n le le i h
   complete (alone fit r k s x u d) p n le i h =
       let b = plain_before r s fit k p in
       let out : has (peek i) (on r ++ on s) ≡ false = or_right (same (peek i) k) (has (peek i) (on r ++ on s)) h in
       ap (λ o. and_then o (λ x. either (fit_for (fit x) k) (expect k >>= (λ t. (λ y. (x, Some y)) <$> parse (parsers n) n s)) (pure (x, None)))) (complete d b.2 n le i (not_left (peek i) (on r) (on s) out))
-        ∙ chosen_second (fit_for (fit x) k) (expect k >>= (λ t. (λ y. (x, Some y)) <$> parse (parsers n) n s)) (pure (x, None)) i (not_fit (fit x) (peek i) k (or_left (same (peek i) k) (has (peek i) (on r ++ on s)) h))
+      ∙ chosen_second (fit_for (fit x) k) (expect k >>= (λ t. (λ y. (x, Some y)) <$> parse (parsers n) n s)) (pure (x, None)) i (not_fit (fit x) (peek i) k (or_left (same (peek i) k) (has (peek i) (on r ++ on s)) h))
   complete (with_more fit r k s x y t u v d f e d') p n le i h =
       let b = plain_before r s fit k p in
       let out : has (peek i) (on r ++ on s) ≡ false = or_right (same (peek i) k) (has (peek i) (on r ++ on s)) h in
       ap (parse (parsers n) n r >>= (λ x. either (fit_for (fit x) k) (expect k >>= (λ t. (λ y. (x, Some y)) <$> parse (parsers n) n s)) (pure (x, None)))) (append_assoc u (t ∷ v) i)
-        ∙ ap (λ o. and_then o (λ x. either (fit_for (fit x) k) (expect k >>= (λ t. (λ y. (x, Some y)) <$> parse (parsers n) n s)) (pure (x, None)))) (complete d b.2 n (omega arith) (t ∷ (v ++ i)) (kind_not t k (on r) e b.0))
-        ∙ chosen_first (fit_for (fit x) k) (expect k >>= (λ t. (λ y. (x, Some y)) <$> parse (parsers n) n s)) (pure (x, None)) (t ∷ (v ++ i)) (is_fit (fit x) t.sym k f e)
-        ∙ ap (λ o. and_then o (λ t. (λ y. (x, Some y)) <$> parse (parsers n) n s)) (expected k t (v ++ i) e)
-        ∙ ap (λ o. and_then o (λ y. pure (x, Some y))) (complete d' b.3 n (omega arith) i (not_right (peek i) (on r) (on s) out))
+      ∙ ap (λ o. and_then o (λ x. either (fit_for (fit x) k) (expect k >>= (λ t. (λ y. (x, Some y)) <$> parse (parsers n) n s)) (pure (x, None)))) (complete d b.2 n (omega arith) (t ∷ (v ++ i)) (kind_not t k (on r) e b.0))
+      ∙ chosen_first (fit_for (fit x) k) (expect k >>= (λ t. (λ y. (x, Some y)) <$> parse (parsers n) n s)) (pure (x, None)) (t ∷ (v ++ i)) (is_fit (fit x) t.sym k f e)
+      ∙ ap (λ o. and_then o (λ t. (λ y. (x, Some y)) <$> parse (parsers n) n s)) (expected k t (v ++ i) e)
+      ∙ ap (λ o. and_then o (λ y. pure (x, Some y))) (complete d' b.3 n (omega arith) i (not_right (peek i) (on r) (on s) out))
   complete (made_of r f x u d) p n le i h = ap (λ o. and_then o (λ x. pure (f x))) (complete d p n le i h)
 
   complete_many : {A : Type 0} {r : Rule A} {xs : List A} {u : List Symbol} (ds : DerivesMany A r xs u) → is_plain (many r) ≡ true → (n c : ℕ) → height_many ds ≤ n → height_many ds ≤ c → (i : List Symbol) → has (peek i) (first r ++ on r) ≡ false → turns (first r) (parse (parsers n) n r) c (u ++ i) ≡ took xs i
@@ -232,9 +233,9 @@ mutual
   complete_many (one_more r x xs u v d ds) p n (suc c) le lc i h =
       let b = plain_many r p in
       chosen_first (first r) (parse (parsers n) n r >>= (λ x. (λ xs. x ∷ xs) <$> turns (first r) (parse (parsers n) n r) c)) (pure []) ((u ++ v) ++ i) ((more_symbols r u v (start_sure r u b.1 (start d b.2))).1 i)
-        ∙ ap (parse (parsers n) n r >>= (λ x. (λ xs. x ∷ xs) <$> turns (first r) (parse (parsers n) n r) c)) (append_assoc u v i)
-        ∙ ap (λ o. and_then o (λ x. (λ xs. x ∷ xs) <$> turns (first r) (parse (parsers n) n r) c)) (complete d b.2 n (omega arith) (v ++ i) (many_follows ds p i h))
-        ∙ ap (λ o. and_then o (λ xs. pure (x ∷ xs))) (complete_many ds p n c (omega arith) (omega arith) i h)
+      ∙ ap (parse (parsers n) n r >>= (λ x. (λ xs. x ∷ xs) <$> turns (first r) (parse (parsers n) n r) c)) (append_assoc u v i)
+      ∙ ap (λ o. and_then o (λ x. (λ xs. x ∷ xs) <$> turns (first r) (parse (parsers n) n r) c)) (complete d b.2 n (omega arith) (v ++ i) (many_follows ds p i h))
+      ∙ ap (λ o. and_then o (λ xs. pure (x ∷ xs))) (complete_many ds p n c (omega arith) (omega arith) i h)
 
   complete_listed : {A : Type 0} {r : Rule A} {xs : List A} {c : Bool} {u : List Symbol} (ds : DerivesListed A r xs c u) → is_plain (listed r) ≡ true → (n j : ℕ) → height_listed ds ≤ n → height_listed ds ≤ j → (i : List Symbol) → has (peek i) (sym.Comma ∷ first r ++ on r) ≡ false → items (first r) (parse (parsers n) n r) j (u ++ i) ≡ took (xs, c) i
   complete_listed (the_last r x u d) p n zero le lj i h = absurd (omega arith)
@@ -243,24 +244,24 @@ mutual
       let q : Parser _ = parse (parsers n) n r in
       let out : has (peek i) (first r ++ on r) ≡ false = or_right (same (peek i) sym.Comma) (has (peek i) (first r ++ on r)) h in
       ap (λ o. and_then o (λ x. either commas (expect sym.Comma >>= (λ t. either (first r) ((λ l. (x ∷ l.0, l.1)) <$> items (first r) q j) (pure (x ∷ [], true)))) (pure (x ∷ [], false)))) (complete d b.2 n (omega arith) i (not_right (peek i) (first r) (on r) out))
-        ∙ chosen_second commas (expect sym.Comma >>= (λ t. either (first r) ((λ l. (x ∷ l.0, l.1)) <$> items (first r) q j) (pure (x ∷ [], true)))) (pure (x ∷ [], false)) i (no_comma (peek i) (first r ++ on r) h)
+      ∙ chosen_second commas (expect sym.Comma >>= (λ t. either (first r) ((λ l. (x ∷ l.0, l.1)) <$> items (first r) q j) (pure (x ∷ [], true)))) (pure (x ∷ [], false)) i (no_comma (peek i) (first r ++ on r) h)
   complete_listed (last_comma r x u t d e) p n zero le lj i h = absurd (omega arith)
   complete_listed (last_comma r x u t d e) p n (suc j) le lj i h =
       let b = plain_listed r p in
       let q : Parser _ = parse (parsers n) n r in
       let out : has (peek i) (first r ++ on r) ≡ false = or_right (same (peek i) sym.Comma) (has (peek i) (first r ++ on r)) h in
       ap (q >>= (λ x. either commas (expect sym.Comma >>= (λ t. either (first r) ((λ l. (x ∷ l.0, l.1)) <$> items (first r) q j) (pure (x ∷ [], true)))) (pure (x ∷ [], false)))) (append_assoc u (t ∷ []) i)
-        ∙ ap (λ o. and_then o (λ x. either commas (expect sym.Comma >>= (λ t. either (first r) ((λ l. (x ∷ l.0, l.1)) <$> items (first r) q j) (pure (x ∷ [], true)))) (pure (x ∷ [], false)))) (complete d b.2 n (omega arith) (t ∷ i) (kind_not t sym.Comma (on r) e b.0))
-        ∙ chosen_first commas (expect sym.Comma >>= (λ t. either (first r) ((λ l. (x ∷ l.0, l.1)) <$> items (first r) q j) (pure (x ∷ [], true)))) (pure (x ∷ [], false)) (t ∷ i) (a_comma t e)
-        ∙ ap (λ o. and_then o (λ t. either (first r) ((λ l. (x ∷ l.0, l.1)) <$> items (first r) q j) (pure (x ∷ [], true)))) (expected sym.Comma t i e)
-        ∙ chosen_second (first r) ((λ l. (x ∷ l.0, l.1)) <$> items (first r) q j) (pure (x ∷ [], true)) i (not_left (peek i) (first r) (on r) out)
+      ∙ ap (λ o. and_then o (λ x. either commas (expect sym.Comma >>= (λ t. either (first r) ((λ l. (x ∷ l.0, l.1)) <$> items (first r) q j) (pure (x ∷ [], true)))) (pure (x ∷ [], false)))) (complete d b.2 n (omega arith) (t ∷ i) (kind_not t sym.Comma (on r) e b.0))
+      ∙ chosen_first commas (expect sym.Comma >>= (λ t. either (first r) ((λ l. (x ∷ l.0, l.1)) <$> items (first r) q j) (pure (x ∷ [], true)))) (pure (x ∷ [], false)) (t ∷ i) (a_comma t e)
+      ∙ ap (λ o. and_then o (λ t. either (first r) ((λ l. (x ∷ l.0, l.1)) <$> items (first r) q j) (pure (x ∷ [], true)))) (expected sym.Comma t i e)
+      ∙ chosen_second (first r) ((λ l. (x ∷ l.0, l.1)) <$> items (first r) q j) (pure (x ∷ [], true)) i (not_left (peek i) (first r) (on r) out)
   complete_listed (more_listed r x xs c u v t d e ds) p n zero le lj i h = absurd (omega arith)
   complete_listed (more_listed r x xs c u v t d e ds) p n (suc j) le lj i h =
       let b = plain_listed r p in
       let q : Parser _ = parse (parsers n) n r in
       ap (q >>= (λ x. either commas (expect sym.Comma >>= (λ t. either (first r) ((λ l. (x ∷ l.0, l.1)) <$> items (first r) q j) (pure (x ∷ [], true)))) (pure (x ∷ [], false)))) (append_assoc u (t ∷ v) i)
-        ∙ ap (λ o. and_then o (λ x. either commas (expect sym.Comma >>= (λ t. either (first r) ((λ l. (x ∷ l.0, l.1)) <$> items (first r) q j) (pure (x ∷ [], true)))) (pure (x ∷ [], false)))) (complete d b.2 n (omega arith) (t ∷ (v ++ i)) (kind_not t sym.Comma (on r) e b.0))
-        ∙ chosen_first commas (expect sym.Comma >>= (λ t. either (first r) ((λ l. (x ∷ l.0, l.1)) <$> items (first r) q j) (pure (x ∷ [], true)))) (pure (x ∷ [], false)) (t ∷ (v ++ i)) (a_comma t e)
-        ∙ ap (λ o. and_then o (λ t. either (first r) ((λ l. (x ∷ l.0, l.1)) <$> items (first r) q j) (pure (x ∷ [], true)))) (expected sym.Comma t (v ++ i) e)
-        ∙ chosen_first (first r) ((λ l. (x ∷ l.0, l.1)) <$> items (first r) q j) (pure (x ∷ [], true)) (v ++ i) (listed_starts ds p i)
-        ∙ ap (λ o. and_then o (λ l. pure (x ∷ l.0, l.1))) (complete_listed ds p n j (omega arith) (omega arith) i h)
+      ∙ ap (λ o. and_then o (λ x. either commas (expect sym.Comma >>= (λ t. either (first r) ((λ l. (x ∷ l.0, l.1)) <$> items (first r) q j) (pure (x ∷ [], true)))) (pure (x ∷ [], false)))) (complete d b.2 n (omega arith) (t ∷ (v ++ i)) (kind_not t sym.Comma (on r) e b.0))
+      ∙ chosen_first commas (expect sym.Comma >>= (λ t. either (first r) ((λ l. (x ∷ l.0, l.1)) <$> items (first r) q j) (pure (x ∷ [], true)))) (pure (x ∷ [], false)) (t ∷ (v ++ i)) (a_comma t e)
+      ∙ ap (λ o. and_then o (λ t. either (first r) ((λ l. (x ∷ l.0, l.1)) <$> items (first r) q j) (pure (x ∷ [], true)))) (expected sym.Comma t (v ++ i) e)
+      ∙ chosen_first (first r) ((λ l. (x ∷ l.0, l.1)) <$> items (first r) q j) (pure (x ∷ [], true)) (v ++ i) (listed_starts ds p i)
+      ∙ ap (λ o. and_then o (λ l. pure (x ∷ l.0, l.1))) (complete_listed ds p n j (omega arith) (omega arith) i h)

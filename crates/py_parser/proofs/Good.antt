@@ -106,9 +106,9 @@ module _ {A : Type 0} (r : Rule A) (ks : List Sym) (p q : Parser A) (each : (ts 
       → Judge (DerivesMany A r) (cond b (q >>= (λ x. (λ xs. x ∷ xs) <$> turns ks q n')) (pure [])) ts (cond b ((p >>= (λ x. (λ xs. x ∷ xs) <$> turns ks p n)) ts) (pure [] ts))
   turns_by n n' others ts true =
       then_good (Derives A r) p q (DerivesMany A r) (λ x. (λ xs. x ∷ xs) <$> turns ks p n) (λ x. (λ xs. x ∷ xs) <$> turns ks q n')
-          (λ x u d. (x ∷ [], [], one_more r x [] u [] d (none_left r)))
-          (λ x u mid d. map_good (DerivesMany A r) (turns ks q n') (λ xs v. DerivesMany A r xs (u ++ v)) (λ xs. x ∷ xs) (λ xs v ds. one_more r x xs u v d ds) mid (turns ks p n mid) (others mid))
-          ts (p ts) (each ts)
+      (λ x u d. (x ∷ [], [], one_more r x [] u [] d (none_left r)))
+      (λ x u mid d. map_good (DerivesMany A r) (turns ks q n') (λ xs v. DerivesMany A r xs (u ++ v)) (λ xs. x ∷ xs) (λ xs v ds. one_more r x xs u v d ds) mid (turns ks p n mid) (others mid))
+      ts (p ts) (each ts)
   turns_by n n' others ts false = pure_good (DerivesMany A r) ts [] (none_left r)
 
   turns_good : (n n' : ℕ) → n ≤ n' → (ts : List Symbol) → Judge (DerivesMany A r) (turns ks q n') ts (turns ks p n ts)
@@ -117,7 +117,7 @@ module _ {A : Type 0} (r : Rule A) (ks : List Sym) (p q : Parser A) (each : (ts 
   turns_good (suc n) zero le ts = absurd (omega arith)
   turns_good (suc n) (suc n') le ts =
       either_good (DerivesMany A r) ks (q >>= (λ x. (λ xs. x ∷ xs) <$> turns ks q n')) (pure []) ts (has (peek ts) ks) refl _
-          (turns_by n n' (turns_good n n' (omega arith)) ts (has (peek ts) ks))
+      (turns_by n n' (turns_good n n' (omega arith)) ts (has (peek ts) ks))
 
   abbrev after_comma : (Parser (List A × Bool)) → A → Parser (List A × Bool)
   after_comma others x = either ks ((λ l. (x ∷ l.0, l.1)) <$> others) (pure (x ∷ [], true))
@@ -139,9 +139,9 @@ module _ {A : Type 0} (r : Rule A) (ks : List Sym) (p q : Parser A) (each : (ts 
         → Judge (λ l v. DListed r l (u ++ v)) (cond b (expect sym.Comma >>= (λ t. after_comma others' x)) (pure (x ∷ [], false))) mid (cond b ((expect sym.Comma >>= (λ t. after_comma others x)) mid) (pure (x ∷ [], false) mid))
     item_by mid true =
         then_good (One sym.Comma) (expect sym.Comma) (expect sym.Comma) (λ l v. DListed r l (u ++ v)) (λ t. after_comma others x) (λ t. after_comma others' x)
-            comma_ends
-            (λ t w rest o. either_good (λ l v. DListed r l (u ++ (w ++ v))) ks ((λ l. (x ∷ l.0, l.1)) <$> others') (pure (x ∷ [], true)) rest (has (peek rest) ks) refl _ (comma_by t w o rest (has (peek rest) ks)))
-            mid (expect sym.Comma mid) (expect_good sym.Comma mid)
+        comma_ends
+        (λ t w rest o. either_good (λ l v. DListed r l (u ++ (w ++ v))) ks ((λ l. (x ∷ l.0, l.1)) <$> others') (pure (x ∷ [], true)) rest (has (peek rest) ks) refl _ (comma_by t w o rest (has (peek rest) ks)))
+        mid (expect sym.Comma mid) (expect_good sym.Comma mid)
     item_by mid false = pure_good (λ l v. DListed r l (u ++ v)) mid (x ∷ [], false) the_last_nil
 
   items_good : (n n' : ℕ) → n ≤ n' → (ts : List Symbol) → Judge (DListed r) (items ks q n') ts (items ks p n ts)
@@ -150,10 +150,10 @@ module _ {A : Type 0} (r : Rule A) (ks : List Sym) (p q : Parser A) (each : (ts 
   items_good (suc n) zero le ts = absurd (omega arith)
   items_good (suc n) (suc n') le ts =
       then_good (Derives A r) p q (DListed r) (λ x. either commas (expect sym.Comma >>= (λ t. after_comma (items ks p n) x)) (pure (x ∷ [], false))) (λ x. either commas (expect sym.Comma >>= (λ t. after_comma (items ks q n') x)) (pure (x ∷ [], false)))
-          (λ x u d. ((x ∷ [], false), [], the_last_nil (items ks p n) (items ks q n') (items_good n n' (omega arith)) x u d))
-          (λ x u mid d. either_good (λ l v. DListed r l (u ++ v)) commas (expect sym.Comma >>= (λ t. after_comma (items ks q n') x)) (pure (x ∷ [], false)) mid (has (peek mid) commas) refl _
-              (item_by (items ks p n) (items ks q n') (items_good n n' (omega arith)) x u d mid (has (peek mid) commas)))
-          ts (p ts) (each ts)
+      (λ x u d. ((x ∷ [], false), [], the_last_nil (items ks p n) (items ks q n') (items_good n n' (omega arith)) x u d))
+      (λ x u mid d. either_good (λ l v. DListed r l (u ++ v)) commas (expect sym.Comma >>= (λ t. after_comma (items ks q n') x)) (pure (x ∷ [], false)) mid (has (peek mid) commas) refl _
+      (item_by (items ks p n) (items ks q n') (items_good n n' (omega arith)) x u d mid (has (peek mid) commas)))
+      ts (p ts) (each ts)
 
 module _ (e e' : Parsers) (n n' : ℕ) (le : n ≤ n') (parts : (m : Part) (ts : List Symbol) → Judge (Derives (Made m) (part m)) (e' m) ts (e m ts)) where
   either_by : {A : Type 0} (D : A → List Symbol → Type 1) (p q p' q' : Parser A) (ts : List Symbol) → Judge D p' ts (p ts) → Judge D q' ts (q ts) → (b : Bool) → Judge D (cond b p' q') ts (cond b (p ts) (q ts))
@@ -177,7 +177,7 @@ module _ (e e' : Parsers) (n n' : ℕ) (le : n ≤ n') (parts : (m : Part) (ts :
     before_by mid true h =
         let f : fit x ≡ true = fit_only (fit x) k (peek mid) h in
         then_good (One k) (expect k) (expect k) (λ y v. Derives (A × Option B) (before fit r k s) y (u ++ v)) (λ t. (λ y. (x, Some y)) <$> parse e n s) (λ t. (λ y. (x, Some y)) <$> parse e' n' s)
-            (λ t w o. more_ends t w o f) (λ t w rest o. more_by t w o f rest) mid (expect k mid) (expect_good k mid)
+        (λ t w o. more_ends t w o f) (λ t w rest o. more_by t w o f rest) mid (expect k mid) (expect_good k mid)
     before_by mid false h = pure_good (λ y v. Derives (A × Option B) (before fit r k s) y (u ++ v)) mid (x, None) alone_nil
 
   is_symbol : (k : Sym) (t : Symbol) (u : List Symbol) → One k t u → Derives Symbol (one k) t u
@@ -189,35 +189,35 @@ module _ (e e' : Parsers) (n n' : ℕ) (le : n ≤ n') (parts : (m : Part) (ts :
   rule_good (part m) ts = parts m ts
   rule_good (r ~ s) ts =
       then_good (Derives _ r) (parse e n r) (parse e' n' r) (Derives _ (r ~ s)) (λ x. (λ y. (x, y)) <$> parse e n s) (λ x. (λ y. (x, y)) <$> parse e' n' s)
-          (λ x u d. let b = sample_of s in ((x, b.value), b.symbols, in_turn r s x b.value u b.symbols d b.derived))
-          (λ x u mid d. map_good (Derives _ s) (parse e' n' s) (λ y v. Derives _ (r ~ s) y (u ++ v)) (λ y. (x, y)) (λ y v dy. in_turn r s x y u v d dy) mid (parse e n s mid) (rule_good s mid))
-          ts (parse e n r ts) (rule_good r ts)
+      (λ x u d. let b = sample_of s in ((x, b.value), b.symbols, in_turn r s x b.value u b.symbols d b.derived))
+      (λ x u mid d. map_good (Derives _ s) (parse e' n' s) (λ y v. Derives _ (r ~ s) y (u ++ v)) (λ y. (x, y)) (λ y v dy. in_turn r s x y u v d dy) mid (parse e n s mid) (rule_good s mid))
+      ts (parse e n r ts) (rule_good r ts)
   rule_good (r ∣ s) ts =
       either_good (Derives _ (r ∣ s)) (first r) (parse e' n' r) (parse e' n' s) ts (has (peek ts) (first r)) refl _
-          (either_by (Derives _ (r ∣ s)) (parse e n r) (parse e n s) (parse e' n' r) (parse e' n' s) ts
-              (read_as (Derives _ r) (Derives _ (r ∣ s)) (parse e' n' r) (λ x u d. the_first r s x u d) ts (parse e n r ts) (rule_good r ts))
-              (read_as (Derives _ s) (Derives _ (r ∣ s)) (parse e' n' s) (λ x u d. the_second r s x u d) ts (parse e n s ts) (rule_good s ts))
-              (has (peek ts) (first r)))
+      (either_by (Derives _ (r ∣ s)) (parse e n r) (parse e n s) (parse e' n' r) (parse e' n' s) ts
+      (read_as (Derives _ r) (Derives _ (r ∣ s)) (parse e' n' r) (λ x u d. the_first r s x u d) ts (parse e n r ts) (rule_good r ts))
+      (read_as (Derives _ s) (Derives _ (r ∣ s)) (parse e' n' s) (λ x u d. the_second r s x u d) ts (parse e n s ts) (rule_good s ts))
+      (has (peek ts) (first r)))
   rule_good (maybe r) ts =
       either_good (Derives _ (maybe r)) (first r) ((λ x. Some x) <$> parse e' n' r) (pure None) ts (has (peek ts) (first r)) refl _
-          (either_by (Derives _ (maybe r)) ((λ x. Some x) <$> parse e n r) (pure None) ((λ x. Some x) <$> parse e' n' r) (pure None) ts
-              (map_good (Derives _ r) (parse e' n' r) (Derives _ (maybe r)) (λ x. Some x) (λ x u d. present r x u d) ts (parse e n r ts) (rule_good r ts))
-              (pure_good (Derives _ (maybe r)) ts None (absent r))
-              (has (peek ts) (first r)))
+      (either_by (Derives _ (maybe r)) ((λ x. Some x) <$> parse e n r) (pure None) ((λ x. Some x) <$> parse e' n' r) (pure None) ts
+      (map_good (Derives _ r) (parse e' n' r) (Derives _ (maybe r)) (λ x. Some x) (λ x u d. present r x u d) ts (parse e n r ts) (rule_good r ts))
+      (pure_good (Derives _ (maybe r)) ts None (absent r))
+      (has (peek ts) (first r)))
   rule_good (many r) ts =
       read_as (DerivesMany _ r) (Derives _ (many r)) (turns (first r) (parse e' n' r) n') (λ xs u d. repeated r xs u d) ts (turns (first r) (parse e n r) n ts)
-          (turns_good r (first r) (parse e n r) (parse e' n' r) (rule_good r) n n' le ts)
+      (turns_good r (first r) (parse e n r) (parse e' n' r) (rule_good r) n n' le ts)
   rule_good (listed r) ts =
       read_as (DListed r) (Derives _ (listed r)) (items (first r) (parse e' n' r) n') (λ l u d. in_a_list r l.0 l.1 u d) ts (items (first r) (parse e n r) n ts)
-          (items_good r (first r) (parse e n r) (parse e' n' r) (rule_good r) n n' le ts)
+      (items_good r (first r) (parse e n r) (parse e' n' r) (rule_good r) n n' le ts)
   rule_good (before fit r k s) ts =
       then_good (Derives _ r) (parse e n r) (parse e' n' r) (Derives _ (before fit r k s))
-          (λ x. either (fit_for (fit x) k) (expect k >>= (λ t. (λ y. (x, Some y)) <$> parse e n s)) (pure (x, None)))
-          (λ x. either (fit_for (fit x) k) (expect k >>= (λ t. (λ y. (x, Some y)) <$> parse e' n' s)) (pure (x, None)))
-          (λ x u d. ((x, None), [], alone_nil fit r k s (rule_good s) x u d))
-          (λ x u mid d. either_good (λ y v. Derives _ (before fit r k s) y (u ++ v)) (fit_for (fit x) k) (expect k >>= (λ t. (λ y. (x, Some y)) <$> parse e' n' s)) (pure (x, None)) mid (has (peek mid) (fit_for (fit x) k)) refl _
-              (before_by fit r k s (rule_good s) x u d mid (has (peek mid) (fit_for (fit x) k)) refl))
-          ts (parse e n r ts) (rule_good r ts)
+      (λ x. either (fit_for (fit x) k) (expect k >>= (λ t. (λ y. (x, Some y)) <$> parse e n s)) (pure (x, None)))
+      (λ x. either (fit_for (fit x) k) (expect k >>= (λ t. (λ y. (x, Some y)) <$> parse e' n' s)) (pure (x, None)))
+      (λ x u d. ((x, None), [], alone_nil fit r k s (rule_good s) x u d))
+      (λ x u mid d. either_good (λ y v. Derives _ (before fit r k s) y (u ++ v)) (fit_for (fit x) k) (expect k >>= (λ t. (λ y. (x, Some y)) <$> parse e' n' s)) (pure (x, None)) mid (has (peek mid) (fit_for (fit x) k)) refl _
+      (before_by fit r k s (rule_good s) x u d mid (has (peek mid) (fit_for (fit x) k)) refl))
+      ts (parse e n r ts) (rule_good r ts)
   rule_good (r ⇒ f) ts = map_good (Derives _ r) (parse e' n' r) (Derives _ (r ⇒ f)) f (λ x u d. made_of r f x u d) ts (parse e n r ts) (rule_good r ts)
 
 -- what the parser of a part takes is derived; where it fails, what came before can go on, and nothing goes on from there; and a
@@ -228,4 +228,4 @@ good zero n' le m ts = tt
 good (suc n) zero le m ts = absurd (omega arith)
 good (suc n) (suc n') le m ts =
     read_as (Derives (Made m) (rule m)) (Derives (Made m) (part m)) (parse (parsers n') n' (rule m)) (λ x u d. a_part m x u d) ts (parse (parsers n) n (rule m) ts)
-        (rule_good (parsers n) (parsers n') n n' (omega arith) (good n n' (omega arith)) (rule m) ts)
+    (rule_good (parsers n) (parsers n') n n' (omega arith) (good n n' (omega arith)) (rule m) ts)

@@ -40,14 +40,13 @@ same_peek s r o h = ap sym_of (same_first s r o h)
 module _ {A B : Type 0} (D1 : A → List Symbol → Type 1) (p q : Parser A) (D : B → List Symbol → Type 1) (f g : A → Parser B)
     (ends : (x : A) (u : List Symbol) → D1 x u → (y : B) × (w : List Symbol) × D y (u ++ w))
     (goes : (x : A) (u mid : List Symbol) → D1 x u → Judge (λ y v. D y (u ++ v)) (g x) mid (f x mid)) where
-
   after : (ts mid : List Symbol) (x : A) → (t : Takes D1 q ts x mid) → (o : Outcome B) → Judge (λ y v. D y (t.used ++ v)) (g x) mid o → Judge D (q >>= g) ts o
   after ts mid x t (took y rest) j = record {
     used = t.used ++ j.used;
     whole = t.whole ∙ ap (λ l. t.used ++ l) j.whole ∙ flip (append_assoc t.used j.used rest);
     derives = j.derives;
     local = λ other h.
-      ap (λ l. and_then (q l) g) (append_assoc t.used j.used other)
+        ap (λ l. and_then (q l) g) (append_assoc t.used j.used other)
         ∙ ap (λ o. and_then o g) (t.local (j.used ++ other) (ap first_of j.whole ∙ same_first j.used rest other h))
         ∙ j.local other h;
   }
@@ -58,7 +57,7 @@ module _ {A B : Type 0} (D1 : A → List Symbol → Type 1) (p q : Parser A) (D 
     value = j.value;
     viable = subst (λ l. D j.value l) (flip (append_assoc t.used j.seen j.more)) j.viable;
     local = λ other h.
-      ap (λ l. and_then (q l) g) (append_assoc t.used j.seen other)
+        ap (λ l. and_then (q l) g) (append_assoc t.used j.seen other)
         ∙ ap (λ o. and_then o g) (t.local (j.seen ++ other) (ap first_of j.whole ∙ same_first j.seen rest other h))
         ∙ j.local other h;
   }

@@ -83,8 +83,8 @@ pub has_within : (s : Sym) (js ks : List Sym) → within js ks ≡ true → has 
 has_within s [] ks w e = absurd cc
 has_within s (j ∷ js) ks w e =
     or_split (same s j) (has s js) (has s ks) e
-        (λ h. subst (λ k. has k ks ≡ true) (flip (same_eq s j h)) (and_left (has j ks) (within js ks) w))
-        (λ h. has_within s js ks (and_right (has j ks) (within js ks) w) h)
+    (λ h. subst (λ k. has k ks ≡ true) (flip (same_eq s j h)) (and_left (has j ks) (within js ks) w))
+    (λ h. has_within s js ks (and_right (has j ks) (within js ks) w) h)
 
 by_false : (a b : Bool) → (a ≡ true → b ≡ true) → b ≡ false → a ≡ false
 by_false false b f e = refl
@@ -105,5 +105,5 @@ pub not_apart : (s : Sym) (js ks : List Sym) → apart js ks ≡ true → has s 
 not_apart s [] ks w e = refl
 not_apart s (j ∷ js) ks w e =
     or_false (same s j) (has s js)
-        (by_absurd (same s j) (λ h. no_both (has s ks) e (subst (λ k. has k ks ≡ false) (flip (same_eq s j h)) (not_true (has j ks) (and_left (not (has j ks)) (apart js ks) w)))))
-        (not_apart s js ks (and_right (not (has j ks)) (apart js ks) w) e)
+    (by_absurd (same s j) (λ h. no_both (has s ks) e (subst (λ k. has k ks ≡ false) (flip (same_eq s j h)) (not_true (has j ks) (and_left (not (has j ks)) (apart js ks) w)))))
+    (not_apart s js ks (and_right (not (has j ks)) (apart js ks) w) e)

@@ -41,7 +41,6 @@ use Rattle.py_parser.specs.declared.module.ConstValue.{ConstValue}
 use Rattle.py_parser.specs.declared.module.ConstValue.TheVariants as const
 use Rattle.py_parser.specs.Parts.{Part, Made}
 use Rattle.py_parser.specs.Rules.{Rule, one, part, ◌~◌, ◌∣◌, maybe, many, listed, before, ◌⇒◌, same, has}
-
 use Rattle.py_parser.specs.Trees.{word, literal, place_of, is_name, argument, exprs_of, all_of, comma_of, items_of, has_comma, grouped, compared, raised, chosen, applied, is_single, subscript, literals, words, named, Dotted, valued, opt_map, first_place}
 
 -- operands with operators between them, which group to the left
@@ -139,7 +138,7 @@ rule Part.Import =
 rule Part.Const = one sym.Name ~ one sym.Assign ~ constant ~ one sym.Newline ⇒ (λ p. item.Const (word p.0) p.1.1.0)
 rule Part.Class =
     one sym.Class ~ one sym.Name ~ one sym.LParen ~ dotted ~ one sym.RParen ~ one sym.Colon ~ one sym.Newline ~ one sym.Indent ~ (part Part.Member ~ many (part Part.Member)) ~ one sym.Dedent
-      ⇒ (λ p. record { place = p.0.place; name = word p.1.0; base = words p.1.1.1.0; members = p.1.1.1.1.1.1.1.1.0.0 ∷ p.1.1.1.1.1.1.1.1.0.1 })
+    ⇒ (λ p. record { place = p.0.place; name = word p.1.0; base = words p.1.1.1.0; members = p.1.1.1.1.1.1.1.1.0.0 ∷ p.1.1.1.1.1.1.1.1.0.1 })
 rule Part.Member =
     strings ~ one sym.Newline ⇒ (λ p. member.Text p.0.0.place (literals p.0))
     ∣ one sym.Pass ~ one sym.Newline ⇒ (λ p. member.Pass p.0.place)
@@ -147,7 +146,7 @@ rule Part.Member =
     ∣ part Part.Func ⇒ (λ f. member.Func f)
 rule Part.Func =
     many (one sym.At ~ part Part.Post ~ one sym.Newline) ~ one sym.Def ~ one sym.Name ~ one sym.LParen ~ maybe (listed (part Part.Param)) ~ one sym.RParen ~ maybe (one sym.Arrow ~ part Part.Annotation) ~ one sym.Colon ~ part Part.Block
-      ⇒ (λ p. record { place = first_place p.1.0.place p.0; decorators = map (λ q. q.1.0) p.0; def = p.1.0.place; name = word p.1.1.0; params = all_of p.1.1.1.1.0; comma = comma_of p.1.1.1.1.0; result = opt_map (λ q. q.1) p.1.1.1.1.1.1.0; body = p.1.1.1.1.1.1.1.1 })
+    ⇒ (λ p. record { place = first_place p.1.0.place p.0; decorators = map (λ q. q.1.0) p.0; def = p.1.0.place; name = word p.1.1.0; params = all_of p.1.1.1.1.0; comma = comma_of p.1.1.1.1.0; result = opt_map (λ q. q.1) p.1.1.1.1.1.1.0; body = p.1.1.1.1.1.1.1.1 })
 rule Part.Param = one sym.Name ~ maybe (one sym.Colon ~ part Part.Annotation) ⇒ (λ p. record { name = word p.0; annotation = opt_map (λ q. q.1) p.1 })
 rule Part.Annotation =
     one sym.None ⇒ (λ t. type_tree.None t.place)
@@ -161,7 +160,7 @@ rule Part.Block =
 rule Part.Stmt =
     part Part.Simple ~ one sym.Newline ⇒ (λ p. stmt.Simple p.0)
     ∣ one sym.If ~ part Part.Expr ~ one sym.Colon ~ part Part.Block ~ many (one sym.Elif ~ part Part.Expr ~ one sym.Colon ~ part Part.Block) ~ maybe (one sym.Else ~ one sym.Colon ~ part Part.Block)
-      ⇒ (λ p. stmt.If p.0.place p.1.0 p.1.1.1.0 (map (λ q. record { place = q.0.place; test = q.1.0; block = q.1.1.1 }) p.1.1.1.1.0) (opt_map (λ q. q.1.1) p.1.1.1.1.1))
+    ⇒ (λ p. stmt.If p.0.place p.1.0 p.1.1.1.0 (map (λ q. record { place = q.0.place; test = q.1.0; block = q.1.1.1 }) p.1.1.1.1.0) (opt_map (λ q. q.1.1) p.1.1.1.1.1))
     ∣ one sym.While ~ part Part.Expr ~ one sym.Colon ~ part Part.Block ⇒ (λ p. stmt.While p.0.place p.1.0 p.1.1.1)
     ∣ one sym.For ~ one sym.Name ~ one sym.In ~ part Part.Expr ~ one sym.Colon ~ part Part.Block ⇒ (λ p. stmt.For p.0.place (word p.1.0) p.1.1.1.0 p.1.1.1.1.1)
 rule Part.Simple =

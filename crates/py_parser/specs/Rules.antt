@@ -10,7 +10,6 @@ use Rattle.py_parser.specs.Parts.{Part, Made}
 infixr 7 ◌~◌
 infixr 6 ◌⇒◌
 infixr 5 ◌∣◌
-
 -- One constructor for each form that the printed grammar has.
 pub data Rule : Type 0 → Type 1 where
   -- a symbol of a kind

@@ -1,7 +1,7 @@
 //! Functions, classes and modules (Python reference 7.11, 8.7, 8.8 and 9.2).
 
-use crate::statement::Block;
 use crate::expression::Tree;
+use crate::statement::Block;
 use crate::type_tree::TypeTree;
 use crate::word::{Literal, Word};
 use puya_base::{List, Place};
