@@ -1,16 +1,16 @@
 -- The parser of modules.
 use Rattle.std.proofs.Common.{◌≡◌, ℕ, zero, suc, ◌+◌, ◌≤◌, ◌<◌, List, [], ◌∷◌, ◌++◌, length, refl, sym as flip, ◌∙◌, ap, subst, arith, append_assoc, append-nil, length-append}
 use Rattle.std.proofs.lemmas.List.{append_cancel_right}
-use Rattle.py_parser.specs.declared.symbol.Symbol.{Symbol}
-use Rattle.py_parser.specs.declared.module.Module.{Module}
-use Rattle.py_parser.specs.Parts.{Part, Made}
-use Rattle.py_parser.specs.Rules.{part}
-use Rattle.py_parser.specs.Derives.{Derives}
-use Rattle.py_parser.specs.Parser.{Outcome, took, stuck, spent, Parser, first_of, peek, parse, parsers}
-use Rattle.py_parser.specs.Whole.{IsModule, IsFirstHopeless, IsTaken, ParsesRight}
-use Rattle.py_parser.proofs.Outcomes.{Takes, Fails, Judge}
-use Rattle.py_parser.proofs.Good.{good}
-use Rattle.py_parser.proofs.Complete.{complete, height}
+use Rattle.py_grammar.specs.declared.symbol.Symbol.{Symbol}
+use Rattle.py_grammar.specs.declared.module.Module.{Module}
+use Rattle.py_grammar.specs.Parts.{Part, Made}
+use Rattle.py_grammar.specs.Rules.{part}
+use Rattle.py_grammar.specs.Derives.{Derives}
+use Rattle.py_grammar.specs.Parser.{Outcome, took, stuck, spent, Parser, first_of, peek, parse, parsers}
+use Rattle.py_grammar.specs.Whole.{IsModule, IsFirstHopeless, IsTaken, ParsesRight}
+use Rattle.py_grammar.proofs.Outcomes.{Takes, Fails, Judge}
+use Rattle.py_grammar.proofs.Good.{good}
+use Rattle.py_grammar.proofs.Complete.{complete, height}
 
 abbrev DModule : Module → List Symbol → Type 1
 DModule = Derives Module (part Part.Module)

@@ -1,12 +1,12 @@
 -- A parser of one symbol of look-ahead for each rule.
 use Rattle.std.specs.Prelude.{◌≡◌, ℕ, zero, suc, Bool, true, false, cond, List, [], ◌∷◌, ◌++◌, Option, Some, None}
-use Rattle.py_parser.specs.declared.symbol.Sym.{Sym}
-use Rattle.py_parser.specs.declared.symbol.Sym.TheVariants as sym
-use Rattle.py_parser.specs.declared.symbol.Symbol.{Symbol}
-use Rattle.py_parser.specs.Parts.{Part, Made}
-use Rattle.py_parser.specs.Rules.{Rule, one, part, ◌~◌, ◌∣◌, maybe, many, listed, before, ◌⇒◌, same, has}
-use Rattle.py_parser.specs.Sets.{first}
-use Rattle.py_parser.specs.Grammar.{rule}
+use Rattle.py_grammar.specs.declared.symbol.Sym.{Sym}
+use Rattle.py_grammar.specs.declared.symbol.Sym.TheVariants as sym
+use Rattle.py_grammar.specs.declared.symbol.Symbol.{Symbol}
+use Rattle.py_grammar.specs.Parts.{Part, Made}
+use Rattle.py_grammar.specs.Rules.{Rule, one, part, ◌~◌, ◌∣◌, maybe, many, listed, before, ◌⇒◌, same, has}
+use Rattle.py_grammar.specs.Sets.{first}
+use Rattle.py_grammar.specs.Grammar.{rule}
 
 -- a value and the symbols behind it, the symbols from the one on at which nothing goes on, or too small a bound
 pub data Outcome (A : Type 0) : Type 0 where

@@ -1,11 +1,11 @@
 -- What the rule of a part is made of. A rule says which symbols stand one behind the other, and which value they make.
 use Rattle.std.specs.Prelude.{◌≡◌, ℕ, Bool, true, false, ◌||◌, ◌&&◌, not, cond, List, [], ◌∷◌, ◌++◌, Option}
 use denote.Enum.Bare.{sameb}
-use Rattle.py_parser.specs.contracts.symbol.Sym.{the_type}
-use Rattle.py_parser.specs.declared.symbol.Sym.{Sym}
-use Rattle.py_parser.specs.declared.symbol.Sym.TheVariants as sym
-use Rattle.py_parser.specs.declared.symbol.Symbol.{Symbol}
-use Rattle.py_parser.specs.Parts.{Part, Made}
+use Rattle.py_grammar.specs.contracts.symbol.Sym.{the_type}
+use Rattle.py_grammar.specs.declared.symbol.Sym.{Sym}
+use Rattle.py_grammar.specs.declared.symbol.Sym.TheVariants as sym
+use Rattle.py_grammar.specs.declared.symbol.Symbol.{Symbol}
+use Rattle.py_grammar.specs.Parts.{Part, Made}
 
 infixr 7 ◌~◌
 infixr 6 ◌⇒◌

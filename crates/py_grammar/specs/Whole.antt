@@ -1,12 +1,12 @@
 -- What is said of the parser of modules: it takes exactly the symbols that a tree derives, and else stands at the first symbol
 -- with which no tree goes on.
 use Rattle.std.specs.Prelude.{◌≡◌, ℕ, ◌≤◌, List, [], ◌∷◌, ◌++◌}
-use Rattle.py_parser.specs.declared.symbol.Symbol.{Symbol}
-use Rattle.py_parser.specs.declared.module.Module.{Module}
-use Rattle.py_parser.specs.Parts.{Part, Made}
-use Rattle.py_parser.specs.Rules.{part}
-use Rattle.py_parser.specs.Derives.{Derives}
-use Rattle.py_parser.specs.Parser.{took, stuck, first_of, parsers}
+use Rattle.py_grammar.specs.declared.symbol.Symbol.{Symbol}
+use Rattle.py_grammar.specs.declared.module.Module.{Module}
+use Rattle.py_grammar.specs.Parts.{Part, Made}
+use Rattle.py_grammar.specs.Rules.{part}
+use Rattle.py_grammar.specs.Derives.{Derives}
+use Rattle.py_grammar.specs.Parser.{took, stuck, first_of, parsers}
 
 -- the tree derives the symbols
 abbrev pub IsModule : Module → List Symbol → Type 1

@@ -1,11 +1,11 @@
 -- Which symbols a rule derives with which value, one case for each alternative of a form.
 use Rattle.std.specs.Prelude.{◌≡◌, Bool, true, false, List, [], ◌∷◌, ◌++◌, Option, Some, None}
-use Rattle.py_parser.specs.declared.symbol.Sym.{Sym}
-use Rattle.py_parser.specs.declared.symbol.Sym.TheVariants as sym
-use Rattle.py_parser.specs.declared.symbol.Symbol.{Symbol}
-use Rattle.py_parser.specs.Parts.{Part, Made}
-use Rattle.py_parser.specs.Rules.{Rule, one, part, ◌~◌, ◌∣◌, maybe, many, listed, before, ◌⇒◌}
-use Rattle.py_parser.specs.Grammar.{rule}
+use Rattle.py_grammar.specs.declared.symbol.Sym.{Sym}
+use Rattle.py_grammar.specs.declared.symbol.Sym.TheVariants as sym
+use Rattle.py_grammar.specs.declared.symbol.Symbol.{Symbol}
+use Rattle.py_grammar.specs.Parts.{Part, Made}
+use Rattle.py_grammar.specs.Rules.{Rule, one, part, ◌~◌, ◌∣◌, maybe, many, listed, before, ◌⇒◌}
+use Rattle.py_grammar.specs.Grammar.{rule}
 
 mutual
   pub data Derives : (A : Type 0) → Rule A → A → List Symbol → Type 1 where

@@ -4,9 +4,9 @@ use Rattle.std.specs.Str.{bytes_eq}
 use Rattle.py_lexer.specs.declared.token.TokenKind.{TokenKind}
 use Rattle.py_lexer.specs.declared.token.TokenKind.TheVariants as kind
 use Rattle.py_lexer.specs.declared.token.Token.{Token}
-use Rattle.py_parser.specs.declared.symbol.Sym.{Sym}
-use Rattle.py_parser.specs.declared.symbol.Sym.TheVariants as sym
-use Rattle.py_parser.specs.declared.symbol.Symbol.{Symbol}
+use Rattle.py_grammar.specs.declared.symbol.Sym.{Sym}
+use Rattle.py_grammar.specs.declared.symbol.Sym.TheVariants as sym
+use Rattle.py_grammar.specs.declared.symbol.Symbol.{Symbol}
 
 -- the kind that a table gives to a text, or another
 abbrev pub listed_as : Sym → List (List ℕ × Sym) → List ℕ → Sym

@@ -1,12 +1,12 @@
 -- Sets of kinds, and what the table of rules keeps: one symbol of look-ahead suffices, and the lists of kinds hold.
 use Rattle.std.proofs.Common.{◌≡◌, ℕ, zero, suc, ◌+◌, ◌≤◌, ◌<◌, Bool, true, false, cond, not, ◌||◌, ◌&&◌, List, [], ◌∷◌, ◌++◌, length, refl, sym as flip, ◌∙◌, ap, subst, arith}
-use Rattle.py_parser.specs.declared.symbol.Sym.{Sym}
-use Rattle.py_parser.specs.declared.symbol.Symbol.{Symbol}
-use Rattle.py_parser.specs.Parts.{Part, Made}
-use Rattle.py_parser.specs.Rules.{Rule, same, has, within, apart}
-use Rattle.py_parser.specs.Sets.{begins, goes_on, null, first, on, is_plain}
-use Rattle.py_parser.specs.Grammar.{rule}
-use Rattle.py_parser.proofs.Outcomes.{same_eq, eq_same}
+use Rattle.py_grammar.specs.declared.symbol.Sym.{Sym}
+use Rattle.py_grammar.specs.declared.symbol.Symbol.{Symbol}
+use Rattle.py_grammar.specs.Parts.{Part, Made}
+use Rattle.py_grammar.specs.Rules.{Rule, same, has, within, apart}
+use Rattle.py_grammar.specs.Sets.{begins, goes_on, null, first, on, is_plain}
+use Rattle.py_grammar.specs.Grammar.{rule}
+use Rattle.py_grammar.proofs.Outcomes.{same_eq, eq_same}
 
 pub plain : (m : Part) → is_plain (rule m) ≡ true
 unfolding rule

@@ -2,11 +2,11 @@
 use Rattle.std.proofs.Common.{◌≡◌, ℕ, zero, suc, ◌+◌, ◌≤◌, ◌<◌, Bool, true, false, cond, List, [], ◌∷◌, ◌++◌, length, Option, Some, None, refl, sym as flip, ◌∙◌, ap, subst, arith, rules, append_assoc, append-nil, length-append}
 use denote.Enum.Bare.{same_true, true_same}
 use Rattle.puya_base.specs.declared.source.Place.{Place}
-use Rattle.py_parser.specs.contracts.symbol.Sym.{the_type}
-use Rattle.py_parser.specs.declared.symbol.Sym.{Sym}
-use Rattle.py_parser.specs.declared.symbol.Symbol.{Symbol}
-use Rattle.py_parser.specs.Rules.{same, has}
-use Rattle.py_parser.specs.Parser.{Outcome, took, stuck, spent, Parser, and_then, ◌>>=◌, pure, ◌<$>◌, first_of, sym_of, peek, take_symbol, expect, either}
+use Rattle.py_grammar.specs.contracts.symbol.Sym.{the_type}
+use Rattle.py_grammar.specs.declared.symbol.Sym.{Sym}
+use Rattle.py_grammar.specs.declared.symbol.Symbol.{Symbol}
+use Rattle.py_grammar.specs.Rules.{same, has}
+use Rattle.py_grammar.specs.Parser.{Outcome, took, stuck, spent, Parser, and_then, ◌>>=◌, pure, ◌<$>◌, first_of, sym_of, peek, take_symbol, expect, either}
 
 -- the value derives the symbols up to rest, and a second parser takes it too, whatever follows the first symbol of rest
 pub record Takes {A : Type 0} (D : A → List Symbol → Type 1) (q : Parser A) (ts : List Symbol) (x : A) (rest : List Symbol) : Type 1 where
