@@ -1,0 +1,10 @@
+//! Tokens of a source to the one tree that derives them.
+#![tactic(auto)]
+
+mod answer;
+
+pub use answer::parse;
+pub use py_grammar::{
+    Arg, BinaryOp, Block, Branch, Class, CompareOp, ConstValue, Exprs, Func, Import, Item, Literal,
+    Member, Module, Param, Simple, Stmt, Tree, TypeArg, TypeTree, UnaryOp, UpdateOp, Word,
+};
