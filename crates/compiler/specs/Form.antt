@@ -18,7 +18,7 @@ use Rattle.py_grammar.specs.declared.statement.Simple.TheVariants as simple
 use Rattle.py_grammar.specs.declared.statement.Stmt.{Stmt, out-Stmt}
 use Rattle.py_grammar.specs.declared.statement.Block.{Block, out-Block}
 use Rattle.py_grammar.specs.declared.statement.Branch.{Branch}
-use Rattle.py_grammar.specs.declared.statement.Branch.TheOpen.{Stmt-F, Block-F}
+use Rattle.py_grammar.specs.declared.statement.Block.TheOpen.{Stmt-F, Block-F}
 use Rattle.py_grammar.specs.declared.module.Param.{Param}
 use Rattle.py_grammar.specs.declared.module.Func.{Func}
 use Rattle.py_grammar.specs.declared.module.Member.{Member}
@@ -132,7 +132,7 @@ abbrev pub returned_line : Simple → Option Tree
 returned_line (simple.Return p (Some e)) = only_of e
 returned_line _ = None
 
-abbrev pub line_node : Stmt-F Block Branch Stmt → Option Simple
+abbrev pub line_node : Stmt-F Block Stmt Branch → Option Simple
 line_node (Stmt-F.Simple s) = Some s
 line_node _ = None
 
@@ -161,7 +161,7 @@ abbrev pub returned_first : List Stmt → Option Tree
 returned_first [] = None
 returned_first (s ∷ ss) = cond (is_end (behind_docstrings ss)) (bind (line_of s) returned_line) None
 
-abbrev pub returned_node : Block-F Block Branch Stmt → Option Tree
+abbrev pub returned_node : Block-F Block Stmt Branch → Option Tree
 returned_node (Block-F.Line s) = returned_line s
 returned_node (Block-F.Lines ss) = returned_first (behind_docstrings ss)
 
