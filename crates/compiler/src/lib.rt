@@ -5,6 +5,8 @@ mod build;
 mod compiling;
 mod form;
 mod programs;
+#[cfg(test)]
+mod tests;
 mod tree;
 
 pub use build::{Build, Builds, CompileFault};
