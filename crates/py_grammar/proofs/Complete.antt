@@ -64,17 +64,17 @@ more_symbols r u v b = (omega (arith, length-append u v, b.0), λ i. peek_split 
 -- ---- what a plain rule is made of
 
 module _ {A B : Code} (r : Rule A) (s : Rule B) where
-  plain_pair : is_plain (r ~ s) ≡ true → (apart (on r) (first s) ≡ true) × (is_plain r ≡ true) × (is_plain s ≡ true)
+  pub plain_pair : is_plain (r ~ s) ≡ true → (apart (on r) (first s) ≡ true) × (is_plain r ≡ true) × (is_plain s ≡ true)
   plain_pair e = let b = and_right (apart (on r) (first s)) (is_plain r && is_plain s) e in (and_left (apart (on r) (first s)) (is_plain r && is_plain s) e, and_left (is_plain r) (is_plain s) b, and_right (is_plain r) (is_plain s) b)
 
-  plain_before : (fit : Value A → Bool) (k : Sym) → is_plain (before fit r k s) ≡ true → (has k (on r) ≡ false) × (null r ≡ false) × (is_plain r ≡ true) × (is_plain s ≡ true)
+  pub plain_before : (fit : Value A → Bool) (k : Sym) → is_plain (before fit r k s) ≡ true → (has k (on r) ≡ false) × (null r ≡ false) × (is_plain r ≡ true) × (is_plain s ≡ true)
   plain_before fit k e =
       let b = and_right (not (has k (on r))) (not (null r) && (is_plain r && is_plain s)) e in
       let c = and_right (not (null r)) (is_plain r && is_plain s) b in
       (not_true (has k (on r)) (and_left (not (has k (on r))) (not (null r) && (is_plain r && is_plain s)) e), not_true (null r) (and_left (not (null r)) (is_plain r && is_plain s) b), and_left (is_plain r) (is_plain s) c, and_right (is_plain r) (is_plain s) c)
 
 module _ {A : Code} (r s : Rule A) where
-  plain_either : is_plain (r ∣ s) ≡ true → (apart (first r) (first s) ≡ true) × (null r ≡ false) × (null s ≡ false) × (is_plain r ≡ true) × (is_plain s ≡ true)
+  pub plain_either : is_plain (r ∣ s) ≡ true → (apart (first r) (first s) ≡ true) × (null r ≡ false) × (null s ≡ false) × (is_plain r ≡ true) × (is_plain s ≡ true)
   plain_either e =
       let b = and_right (apart (first r) (first s)) (not (null r) && (not (null s) && (is_plain r && is_plain s))) e in
       let c = and_right (not (null r)) (not (null s) && (is_plain r && is_plain s)) b in
@@ -82,15 +82,15 @@ module _ {A : Code} (r s : Rule A) where
       (and_left (apart (first r) (first s)) (not (null r) && (not (null s) && (is_plain r && is_plain s))) e, not_true (null r) (and_left (not (null r)) (not (null s) && (is_plain r && is_plain s)) b), not_true (null s) (and_left (not (null s)) (is_plain r && is_plain s) c), and_left (is_plain r) (is_plain s) d, and_right (is_plain r) (is_plain s) d)
 
 module _ {A : Code} (r : Rule A) where
-  plain_maybe : is_plain (maybe r) ≡ true → (null r ≡ false) × (is_plain r ≡ true)
+  pub plain_maybe : is_plain (maybe r) ≡ true → (null r ≡ false) × (is_plain r ≡ true)
   plain_maybe e = (not_true (null r) (and_left (not (null r)) (is_plain r) e), and_right (not (null r)) (is_plain r) e)
 
-  plain_many : is_plain (many r) ≡ true → (apart (on r) (first r) ≡ true) × (null r ≡ false) × (is_plain r ≡ true)
+  pub plain_many : is_plain (many r) ≡ true → (apart (on r) (first r) ≡ true) × (null r ≡ false) × (is_plain r ≡ true)
   plain_many e =
       let b = and_right (apart (on r) (first r)) (not (null r) && is_plain r) e in
       (and_left (apart (on r) (first r)) (not (null r) && is_plain r) e, not_true (null r) (and_left (not (null r)) (is_plain r) b), and_right (not (null r)) (is_plain r) b)
 
-  plain_listed : is_plain (listed r) ≡ true → (has sym.Comma (on r) ≡ false) × (null r ≡ false) × (is_plain r ≡ true)
+  pub plain_listed : is_plain (listed r) ≡ true → (has sym.Comma (on r) ≡ false) × (null r ≡ false) × (is_plain r ≡ true)
   plain_listed e =
       let b = and_right (not (has sym.Comma (on r))) (not (null r) && is_plain r) e in
       (not_true (has sym.Comma (on r)) (and_left (not (has sym.Comma (on r))) (not (null r) && is_plain r) e), not_true (null r) (and_left (not (null r)) (is_plain r) b), and_right (not (null r)) (is_plain r) b)

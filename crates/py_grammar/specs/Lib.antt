@@ -7,5 +7,6 @@ pub mod Grammar
 pub mod Ahead
 pub mod Derives
 pub mod Parser
+pub mod Flow
 pub mod Whole
 pub mod Symbols
