@@ -6,4 +6,5 @@ pub mod Printed
 pub mod Complete
 pub mod Steps
 pub mod Flow
+pub mod Ends
 pub mod Whole

@@ -2,6 +2,7 @@
 #![tactic(auto)]
 
 mod expression;
+mod laws;
 mod module;
 mod statement;
 mod symbol;
@@ -9,6 +10,11 @@ mod type_tree;
 mod word;
 
 pub use expression::{Arg, BinaryOp, CompareOp, Exprs, Tree, UnaryOp};
+pub use laws::{
+    derived_is_taken, end_stands_last, hopeless_symbol_is_the_only_one,
+    look_ahead_derives_the_same, parser_answers, parser_stops_at_the_first_hopeless_symbol,
+    taken_is_derived, tree_is_the_only_one,
+};
 pub use module::{Class, ConstValue, Func, Import, Item, Member, Module, Param};
 pub use statement::{Block, Branch, Simple, Stmt, UpdateOp};
 pub use symbol::{Sym, Symbol};
