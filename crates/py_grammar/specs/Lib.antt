@@ -9,4 +9,5 @@ pub mod Derives
 pub mod Parser
 pub mod Flow
 pub mod Whole
+pub mod Rows
 pub mod Symbols

@@ -4,6 +4,7 @@
 mod expression;
 mod laws;
 mod module;
+mod rows;
 mod statement;
 mod symbol;
 mod type_tree;
@@ -16,6 +17,9 @@ pub use laws::{
     taken_is_derived, tree_is_the_only_one,
 };
 pub use module::{Class, ConstValue, Func, Import, Item, Member, Module, Param};
+pub use rows::{
+    commas_are_kept, elif_belongs_to_its_if, keywords_are_names, operators_bind, parser_stops,
+};
 pub use statement::{Block, Branch, Simple, Stmt, UpdateOp};
 pub use symbol::{Sym, Symbol};
 pub use type_tree::{TypeArg, TypeTree};
