@@ -7,6 +7,7 @@ use Rattle.py_grammar.specs.declared.module.Module.{Module}
 use Rattle.py_grammar.specs.Codes.{Code, Value}
 use Rattle.py_grammar.specs.Parts.{Part, Made}
 use Rattle.py_grammar.specs.Rules.{part}
+use Rattle.py_grammar.specs.Grammar.{rule}
 use Rattle.py_grammar.specs.Ahead.{ahead}
 use Rattle.py_grammar.specs.Derives.{Derives}
 use Rattle.py_grammar.specs.Parser.{Outcome, took, stuck, spent, Parser, first_of, peek, parse, parsers}
@@ -23,11 +24,11 @@ use Rattle.py_grammar.proofs.Ends.{module_ended, module_ends, nothing_behind}
 abbrev DModule : Module → List Symbol → Type 0
 DModule = Derives ahead Code.Module (part Part.Module)
 
-abbrev value_or : Module → Outcome Module → Module
+abbrev value_or : {A : Type 0} → A → Outcome A → A
 value_or d (took x i) = x
 value_or d _ = d
 
-abbrev rest_of : Outcome Module → List Symbol
+abbrev rest_of : {A : Type 0} → Outcome A → List Symbol
 rest_of (took x i) = i
 rest_of (stuck i) = i
 rest_of spent = []
@@ -76,6 +77,16 @@ steps ts = 32 * (length ts + 1)
 pub taken_is_derived : (ts : List Symbol) (m : Module) → full Part.Module ts ≡ took m [] → IsModule m ts
 unfolding full enough
 taken_is_derived ts m e = printed_of (sound_by (parsers (steps ts) Part.Module) ts m (parsers (steps ts) Part.Module ts) (good (steps ts) (steps ts) (omega arith) Part.Module ts) e)
+
+-- what the parser of a part takes, its value derives
+pub part_taken : (n : Part) (ts rest : List Symbol) (x : Value (Made n)) → full n ts ≡ took x rest → (used : List Symbol) × (ts ≡ used ++ rest) × Derives rule (Made n) (part n) x used
+unfolding full enough
+part_taken n ts rest x e = by_outcome (parsers (steps ts) n ts) (good (steps ts) (steps ts) (omega arith) n ts) e
+  where
+    by_outcome : (o : Outcome (Value (Made n))) → Judge (Derives ahead (Made n) (part n)) (parsers (steps ts) n) ts o → o ≡ took x rest → (used : List Symbol) × (ts ≡ used ++ rest) × Derives rule (Made n) (part n) x used
+    by_outcome (took y i) j h = (j.used, j.whole ∙ ap (λ l. j.used ++ l) (ap rest_of h), subst (λ y. Derives rule (Made n) (part n) y j.used) (ap (value_or y) h) (printed_of j.derives))
+    by_outcome (stuck i) j h = absurd cc
+    by_outcome spent j h = absurd cc
 
 -- what a tree derives, the parser takes for that tree
 pub derived_is_taken : (ts : List Symbol) (m : Module) → IsModule m ts → full Part.Module ts ≡ took m []

@@ -1,6 +1,6 @@
 //! What holds of the grammar and of its parser. Each function states a law, and does nothing.
 
-ghost use Rattle.std.specs.Prelude.{◌≡◌, ℕ, List, []};
+ghost use Rattle.std.specs.Prelude.{◌≡◌, ◌++◌, ℕ, List, []};
 ghost use Rattle.py_lexer.specs.declared.token.Token.{Token};
 ghost use Rattle.py_lexer.specs.Spans.{EndsOnce as TokensEndOnce};
 ghost use Rattle.py_grammar.specs.declared.symbol.Symbol.{Symbol};
@@ -27,9 +27,10 @@ pub fn parser_answers()
     ensures { (ts : List Symbol) → full Part.Module ts ≡ spent → ⊥ }
 {}
 
-/// What the parser takes as a tree, that tree derives.
+/// What the parser takes as a tree, that tree derives; and so it is with the parser of each part.
 pub fn taken_is_derived()
-    ensures { (ts : List Symbol) (m : Module) → full Part.Module ts ≡ took m [] → IsModule m ts }
+    ensures parts { (n : Part) (ts rest : List Symbol) (x : Value (Made n)) → full n ts ≡ took x rest → (used : List Symbol) × (ts ≡ used ++ rest) × Derives rule (Made n) (part n) x used }
+    ensures modules { (ts : List Symbol) (m : Module) → full Part.Module ts ≡ took m [] → IsModule m ts }
 {}
 
 /// What a tree derives, the parser takes as that tree.
