@@ -1,17 +1,16 @@
 -- The parser of a rule takes all that the rule derives.
-use Rattle.std.proofs.Common.{◌≡◌, ℕ, zero, suc, ◌+◌, ◌≤◌, ◌<◌, Bool, true, false, cond, not, ◌||◌, ◌&&◌, List, [], ◌∷◌, ◌++◌, length, Option, Some, None, refl, sym as flip, ◌∙◌, ap, subst, arith, append_assoc, append-nil, length-append}
+use Rattle.std.proofs.Common.{◌≡◌, ℕ, zero, suc, ◌+◌, ◌≤◌, Bool, true, false, cond, not, ◌||◌, ◌&&◌, List, [], ◌∷◌, ◌++◌, length, Some, None, refl, sym as flip, ◌∙◌, ap, arith, append_assoc, length-append}
 use Rattle.py_grammar.specs.declared.symbol.Sym.{Sym}
 use Rattle.py_grammar.specs.declared.symbol.Sym.TheVariants as sym
 use Rattle.py_grammar.specs.declared.symbol.Symbol.{Symbol}
 use Rattle.py_grammar.specs.Codes.{Code, Value}
-use Rattle.py_grammar.specs.Parts.{Part, Made}
-use Rattle.py_grammar.specs.Rules.{Rule, one, part, ◌~◌, ◌∣◌, maybe, many, listed, before, ◌⇒◌, same, has, within, apart}
+use Rattle.py_grammar.specs.Parts.{Part}
+use Rattle.py_grammar.specs.Rules.{Rule, part, ◌~◌, ◌∣◌, maybe, many, listed, before, ◌⇒◌, same, has, apart}
 use Rattle.py_grammar.specs.Sets.{begins, goes_on, null, first, on, is_plain}
-use Rattle.py_grammar.specs.Grammar.{rule}
 use Rattle.py_grammar.specs.Ahead.{ahead}
 use Rattle.py_grammar.specs.Derives.{Derives, DerivesMany, DerivesListed, a_symbol, a_part, in_turn, the_first, the_second, absent, present, repeated, in_a_list, alone, with_more, made_of, none_left, one_more, the_last, last_comma, more_listed}
-use Rattle.py_grammar.specs.Parser.{Outcome, took, stuck, spent, Parser, and_then, ◌>>=◌, pure, ◌<$>◌, first_of, sym_of, peek, take_symbol, expect, either, turns, commas, items, fit_for, Parsers, parse, parsers}
-use Rattle.py_grammar.proofs.Outcomes.{same_eq, eq_same}
+use Rattle.py_grammar.specs.Parser.{took, stuck, Parser, and_then, ◌>>=◌, pure, ◌<$>◌, peek, expect, either, turns, commas, items, fit_for, parse, parsers}
+use Rattle.py_grammar.proofs.Outcomes.{eq_same}
 use Rattle.py_grammar.proofs.Sets.{plain, not_null, begun, gone, or_left, or_right, or_true, and_left, and_right, not_true, no_both, has_left, has_right, not_left, not_right, has_within, not_within, not_apart}
 
 -- ---- what a rule derives begins with one of its kinds, or is nothing

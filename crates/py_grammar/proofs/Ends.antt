@@ -1,5 +1,5 @@
 -- End stands last in what a module derives, and only there.
-use Rattle.std.proofs.Common.{◌≡◌, ℕ, Bool, true, false, not, ◌||◌, ◌&&◌, cond, map, List, [], ◌∷◌, ◌++◌, Option, Some, None, refl, sym as flip, ◌∙◌, ap, subst}
+use Rattle.std.proofs.Common.{◌≡◌, ℕ, Bool, true, false, not, ◌&&◌, cond, List, [], ◌∷◌, ◌++◌, refl, sym as flip, ◌∙◌, ap, subst}
 use Rattle.std.specs.Str.{bytes_eq}
 use Rattle.py_lexer.specs.declared.token.TokenKind.{TokenKind}
 use Rattle.py_lexer.specs.declared.token.TokenKind.TheVariants as kind
@@ -10,15 +10,15 @@ use Rattle.py_grammar.specs.declared.symbol.Sym.TheVariants as sym
 use Rattle.py_grammar.specs.declared.symbol.Symbol.{Symbol}
 use Rattle.py_grammar.specs.declared.module.Module.{Module}
 use Rattle.py_grammar.specs.Codes.{Code, Value}
-use Rattle.py_grammar.specs.Parts.{Part, Made}
+use Rattle.py_grammar.specs.Parts.{Part}
 use Rattle.py_grammar.specs.Rules.{Rule, one, part, ◌~◌, ◌∣◌, maybe, many, listed, before, ◌⇒◌, same}
 use Rattle.py_grammar.specs.Grammar.{rule}
 use Rattle.py_grammar.specs.Derives.{Derives, DerivesMany, DerivesListed, a_symbol, a_part, in_turn, the_first, the_second, absent, present, repeated, in_a_list, alone, with_more, made_of, none_left, one_more, the_last, last_comma, more_listed}
 use Rattle.py_grammar.specs.Symbols.{listed_as, keywords, marks, sym_of_token, symbol_of, symbols, text_of}
 use Rattle.py_grammar.specs.Whole.{IsModule, EndsOnce}
-use Rattle.py_grammar.proofs.Outcomes.{same_eq, eq_same}
+use Rattle.py_grammar.proofs.Outcomes.{eq_same}
 use Rattle.py_grammar.proofs.Sets.{and_left, and_right, not_true}
-use Rattle.py_grammar.proofs.Shapes.{InTurn, MadeOf, IsOne, shape}
+use Rattle.py_grammar.proofs.Shapes.{shape}
 
 is_module : Part → Bool
 is_module Part.Module = true

@@ -1,20 +1,19 @@
 -- With as many steps as suffice the outcome is the same as with any more, so the parser of a rule is made of those of its parts.
-use Rattle.std.proofs.Common.{◌≡◌, ℕ, zero, suc, ◌+◌, ◌*◌, ◌≤◌, ◌<◌, Bool, true, false, cond, map, List, [], ◌∷◌, ◌++◌, length, Option, Some, None, refl, sym as flip, ◌∙◌, ap, subst, arith, append_assoc, append-nil}
+use Rattle.std.proofs.Common.{◌≡◌, ℕ, suc, ◌+◌, ◌*◌, ◌≤◌, ◌<◌, Bool, true, false, cond, map, List, [], ◌∷◌, ◌++◌, length, Option, Some, None, refl, sym as flip, ◌∙◌, ap, subst, arith, append_assoc, append-nil}
 use Rattle.py_grammar.specs.declared.symbol.Sym.{Sym}
 use Rattle.py_grammar.specs.declared.symbol.Sym.TheVariants as sym
 use Rattle.py_grammar.specs.declared.symbol.Symbol.{Symbol}
 use Rattle.py_grammar.specs.Codes.{Code, Value}
 use Rattle.py_grammar.specs.Parts.{Part, Made}
-use Rattle.py_grammar.specs.Rules.{Rule, one, part, ◌~◌, ◌∣◌, maybe, many, listed, before, ◌⇒◌, same, has}
+use Rattle.py_grammar.specs.Rules.{Rule, one, part, ◌~◌, ◌∣◌, maybe, many, listed, before, ◌⇒◌, has}
 use Rattle.py_grammar.specs.Sets.{null, first, is_plain}
-use Rattle.py_grammar.specs.Grammar.{rule}
 use Rattle.py_grammar.specs.Ahead.{ahead}
-use Rattle.py_grammar.specs.Derives.{Derives, DerivesMany, DerivesListed}
-use Rattle.py_grammar.specs.Parser.{Outcome, took, stuck, spent, Parser, and_then, ◌>>=◌, pure, ◌<$>◌, first_of, peek, take_symbol, expect, either, turns, commas, items, fit_for, Parsers, parse, parsers}
+use Rattle.py_grammar.specs.Derives.{Derives, DerivesMany}
+use Rattle.py_grammar.specs.Parser.{Outcome, took, stuck, spent, Parser, and_then, ◌>>=◌, pure, ◌<$>◌, peek, expect, either, turns, commas, items, fit_for, parse, parsers}
 use Rattle.py_grammar.specs.Flow.{enough, full, run, again, gather, listing, follow}
 use Rattle.py_grammar.proofs.Outcomes.{Judge}
 use Rattle.py_grammar.proofs.Good.{good, rule_good, turns_good, items_good, DListed}
-use Rattle.py_grammar.proofs.Sets.{plain, not_null}
+use Rattle.py_grammar.proofs.Sets.{plain}
 use Rattle.py_grammar.proofs.Complete.{plain_pair, plain_before, plain_either, plain_maybe, plain_many, plain_listed}
 use Rattle.py_grammar.proofs.Steps.{Runs, rank, low_part, small_rank, part_runs, runs, rule_runs, expect_runs}
 

@@ -1,7 +1,6 @@
 -- The parser of modules.
-use Rattle.std.proofs.Common.{◌≡◌, ℕ, zero, suc, ◌+◌, ◌*◌, ◌≤◌, ◌<◌, Bool, true, false, List, [], ◌∷◌, ◌++◌, length, Option, Some, None, refl, sym as flip, ◌∙◌, ap, subst, arith, append_assoc, append-nil, length-append}
+use Rattle.std.proofs.Common.{◌≡◌, ℕ, ◌+◌, ◌*◌, ◌≤◌, ◌<◌, false, List, [], ◌∷◌, ◌++◌, length, refl, sym as flip, ◌∙◌, ap, subst, arith, append_assoc, append-nil}
 use Rattle.std.proofs.lemmas.List.{append_cancel_right}
-use Rattle.py_grammar.specs.declared.symbol.Sym.TheVariants as sym
 use Rattle.py_grammar.specs.declared.symbol.Symbol.{Symbol}
 use Rattle.py_grammar.specs.declared.module.Module.{Module}
 use Rattle.py_grammar.specs.Codes.{Code, Value}
@@ -10,10 +9,10 @@ use Rattle.py_grammar.specs.Rules.{part}
 use Rattle.py_grammar.specs.Grammar.{rule}
 use Rattle.py_grammar.specs.Ahead.{ahead}
 use Rattle.py_grammar.specs.Derives.{Derives}
-use Rattle.py_grammar.specs.Parser.{Outcome, took, stuck, spent, Parser, first_of, peek, parse, parsers}
+use Rattle.py_grammar.specs.Parser.{Outcome, took, stuck, spent, Parser, first_of, parse, parsers}
 use Rattle.py_grammar.specs.Flow.{enough, full}
 use Rattle.py_grammar.specs.Whole.{IsModule, IsFirstHopeless, EndsOnce}
-use Rattle.py_grammar.proofs.Outcomes.{Takes, Fails, Judge}
+use Rattle.py_grammar.proofs.Outcomes.{Fails, Judge}
 use Rattle.py_grammar.proofs.Good.{good}
 use Rattle.py_grammar.proofs.Complete.{complete, height}
 use Rattle.py_grammar.proofs.Printed.{ahead_of, printed_of}

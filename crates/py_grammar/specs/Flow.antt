@@ -1,11 +1,10 @@
 -- The parser of a rule with as many steps as suffice, and what it is over the parsers of its parts.
-use Rattle.std.specs.Prelude.{◌≡◌, ℕ, ◌+◌, ◌*◌, Bool, true, false, map, List, [], ◌∷◌, ◌++◌, Option, Some, None, length}
-use Rattle.py_grammar.specs.declared.symbol.Symbol.{Symbol}
+use Rattle.std.specs.Prelude.{ℕ, ◌+◌, ◌*◌, Bool, map, List, [], ◌++◌, Some, None, length}
 use Rattle.py_grammar.specs.Codes.{Code, Value}
 use Rattle.py_grammar.specs.Parts.{Part, Made}
 use Rattle.py_grammar.specs.Rules.{Rule, one, part, ◌~◌, ◌∣◌, maybe, many, listed, before, ◌⇒◌}
 use Rattle.py_grammar.specs.Sets.{first}
-use Rattle.py_grammar.specs.Parser.{Outcome, Parser, ◌>>=◌, ◌<$>◌, pure, expect, either, fit_for, parse, parsers}
+use Rattle.py_grammar.specs.Parser.{Parser, ◌>>=◌, ◌<$>◌, expect, either, fit_for, parse, parsers}
 
 -- the number of steps that suffices for so many symbols: fewer than 32 parts begin one another before a symbol is taken
 unfoldable pub enough : ℕ → ℕ

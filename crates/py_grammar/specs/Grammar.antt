@@ -1,48 +1,25 @@
 -- The grammar: the rule of each part (Python reference, chapters 6 to 9). Behind each rule stands the tree that it makes.
-use Rattle.std.specs.Prelude.{◌≡◌, ℕ, zero, suc, Bool, true, false, ◌||◌, ◌&&◌, cond, map, List, [], ◌∷◌, ◌++◌, Option, Some, None}
-use Rattle.puya_base.specs.declared.source.Place.{Place}
+use Rattle.std.specs.Prelude.{true, false, map, ◌∷◌}
 use Rattle.py_grammar.specs.declared.symbol.Sym.{Sym}
 use Rattle.py_grammar.specs.declared.symbol.Sym.TheVariants as sym
-use Rattle.py_grammar.specs.declared.symbol.Symbol.{Symbol}
-use Rattle.py_grammar.specs.declared.word.Word.{Word}
-use Rattle.py_grammar.specs.declared.word.Literal.{Literal}
-use Rattle.py_grammar.specs.declared.type_tree.TypeTree.{TypeTree}
 use Rattle.py_grammar.specs.declared.type_tree.TypeTree.TheVariants as type_tree
 use Rattle.py_grammar.specs.declared.type_tree.TypeArg.TheVariants as type_arg
-use Rattle.py_grammar.specs.declared.expression.Tree.{Tree}
 use Rattle.py_grammar.specs.declared.expression.Tree.TheVariants as tree
-use Rattle.py_grammar.specs.declared.expression.Arg.{Arg}
 use Rattle.py_grammar.specs.declared.expression.Arg.TheVariants as arg
-use Rattle.py_grammar.specs.declared.expression.Exprs.{Exprs}
-use Rattle.py_grammar.specs.declared.expression.BinaryOp.{BinaryOp}
 use Rattle.py_grammar.specs.declared.expression.BinaryOp.TheVariants as op
-use Rattle.py_grammar.specs.declared.expression.CompareOp.{CompareOp}
 use Rattle.py_grammar.specs.declared.expression.CompareOp.TheVariants as compare
-use Rattle.py_grammar.specs.declared.expression.UnaryOp.{UnaryOp}
 use Rattle.py_grammar.specs.declared.expression.UnaryOp.TheVariants as unary
-use Rattle.py_grammar.specs.declared.statement.UpdateOp.{UpdateOp}
 use Rattle.py_grammar.specs.declared.statement.UpdateOp.TheVariants as update
-use Rattle.py_grammar.specs.declared.statement.Simple.{Simple}
 use Rattle.py_grammar.specs.declared.statement.Simple.TheVariants as simple
-use Rattle.py_grammar.specs.declared.statement.Stmt.{Stmt}
 use Rattle.py_grammar.specs.declared.statement.Stmt.TheVariants as stmt
-use Rattle.py_grammar.specs.declared.statement.Branch.{Branch}
-use Rattle.py_grammar.specs.declared.statement.Block.{Block}
 use Rattle.py_grammar.specs.declared.statement.Block.TheVariants as block
-use Rattle.py_grammar.specs.declared.module.Param.{Param}
-use Rattle.py_grammar.specs.declared.module.Func.{Func}
-use Rattle.py_grammar.specs.declared.module.Member.{Member}
 use Rattle.py_grammar.specs.declared.module.Member.TheVariants as member
-use Rattle.py_grammar.specs.declared.module.Class.{Class}
-use Rattle.py_grammar.specs.declared.module.Import.{Import}
-use Rattle.py_grammar.specs.declared.module.Item.{Item}
 use Rattle.py_grammar.specs.declared.module.Item.TheVariants as item
-use Rattle.py_grammar.specs.declared.module.ConstValue.{ConstValue}
 use Rattle.py_grammar.specs.declared.module.ConstValue.TheVariants as const
 use Rattle.py_grammar.specs.Codes.{Code, Value}
-use Rattle.py_grammar.specs.Parts.{Part, Made}
+use Rattle.py_grammar.specs.Parts.{Part}
 use Rattle.py_grammar.specs.Rules.{Rule, Table, one, part, ◌~◌, ◌∣◌, maybe, many, listed, ◌⇒◌}
-use Rattle.py_grammar.specs.Trees.{word, literal, place_of, exprs_of, all_of, comma_of, items_of, has_comma, grouped, compared, raised, chosen, applied, literals, words, named, Dotted, valued, opt_map, first_place}
+use Rattle.py_grammar.specs.Trees.{word, literal, place_of, exprs_of, all_of, comma_of, items_of, has_comma, grouped, compared, raised, chosen, applied, literals, words, named, valued, opt_map, first_place}
 
 -- operands with operators between them, which group to the left
 abbrev pub with_operators : Rule Code.Tree → Rule Code.BinaryOp → Rule Code.Tree

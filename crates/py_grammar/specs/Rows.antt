@@ -1,16 +1,11 @@
 -- Worked rows of the grammar: symbols without text, one a column, and the trees that they make.
-use Rattle.std.specs.Prelude.{◌≡◌, ℕ, ◌+◌, Bool, true, false, List, [], ◌∷◌, Option, Some, None}
+use Rattle.std.specs.Prelude.{ℕ, ◌+◌, List, [], ◌∷◌}
 use Rattle.puya_base.specs.declared.source.Place.{Place}
 use Rattle.py_grammar.specs.declared.symbol.Sym.{Sym}
 use Rattle.py_grammar.specs.declared.symbol.Symbol.{Symbol}
 use Rattle.py_grammar.specs.declared.word.Word.{Word}
-use Rattle.py_grammar.specs.declared.word.Literal.{Literal}
 use Rattle.py_grammar.specs.declared.expression.Tree.{Tree}
 use Rattle.py_grammar.specs.declared.expression.Tree.TheVariants as tree
-use Rattle.py_grammar.specs.declared.expression.BinaryOp.{BinaryOp}
-use Rattle.py_grammar.specs.declared.expression.UnaryOp.{UnaryOp}
-use Rattle.py_grammar.specs.declared.statement.Stmt.{Stmt}
-use Rattle.py_grammar.specs.declared.statement.Stmt.TheVariants as stmt
 use Rattle.py_grammar.specs.declared.statement.Simple.TheVariants as simple
 use Rattle.py_grammar.specs.declared.statement.Block.{Block}
 use Rattle.py_grammar.specs.declared.statement.Block.TheVariants as block

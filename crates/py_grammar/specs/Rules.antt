@@ -1,10 +1,8 @@
 -- What the rule of a part is made of. A rule says which symbols stand one behind the other, and which value they make.
-use Rattle.std.specs.Prelude.{◌≡◌, ℕ, Bool, true, false, ◌||◌, ◌&&◌, not, cond, List, [], ◌∷◌, ◌++◌, Option}
+use Rattle.std.specs.Prelude.{Bool, true, false, ◌||◌, ◌&&◌, not, List, [], ◌∷◌}
 use denote.Enum.Bare.{sameb}
 use Rattle.py_grammar.specs.contracts.symbol.Sym.{the_type}
 use Rattle.py_grammar.specs.declared.symbol.Sym.{Sym}
-use Rattle.py_grammar.specs.declared.symbol.Sym.TheVariants as sym
-use Rattle.py_grammar.specs.declared.symbol.Symbol.{Symbol}
 use Rattle.py_grammar.specs.Codes.{Code, Value}
 use Rattle.py_grammar.specs.Parts.{Part, Made}
 

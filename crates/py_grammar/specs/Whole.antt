@@ -1,11 +1,11 @@
 -- What is said of the parser of modules: it takes exactly the symbols that a tree derives, and else stands at the first symbol
 -- with which no tree goes on.
-use Rattle.std.specs.Prelude.{◌≡◌, ℕ, List, [], ◌∷◌, ◌++◌}
+use Rattle.std.specs.Prelude.{◌≡◌, List, [], ◌∷◌, ◌++◌}
 use Rattle.py_grammar.specs.declared.symbol.Sym.TheVariants as sym
 use Rattle.py_grammar.specs.declared.symbol.Symbol.{Symbol}
 use Rattle.py_grammar.specs.declared.module.Module.{Module}
-use Rattle.py_grammar.specs.Codes.{Code, Value}
-use Rattle.py_grammar.specs.Parts.{Part, Made}
+use Rattle.py_grammar.specs.Codes.{Code}
+use Rattle.py_grammar.specs.Parts.{Part}
 use Rattle.py_grammar.specs.Rules.{part}
 use Rattle.py_grammar.specs.Grammar.{rule}
 use Rattle.py_grammar.specs.Derives.{Derives}

@@ -42,14 +42,10 @@ pub fn keywords_are_names()
 
 /// `elif` belongs to the `if` of its own column.
 pub fn elif_belongs_to_its_if()
-    ensures inner {
-        full Part.Stmt (from 1 (sym.If ∷ sym.Name ∷ sym.Colon ∷ sym.Newline ∷ sym.Indent ∷ sym.If ∷ sym.Name ∷ sym.Colon ∷ sym.Pass ∷ sym.Newline ∷ sym.Elif ∷ sym.Name ∷ sym.Colon ∷ sym.Pass ∷ sym.Newline ∷ sym.Dedent ∷ sym.End ∷ []))
-        ≡ took (stmt.If (place 1) (name 2) (block.Lines (stmt.If (place 6) (name 7) (pass 9) (record { place = place 11; test = name 12; block = pass 14 } ∷ []) None ∷ [])) [] None) (from 17 (sym.End ∷ []))
-    }
-    ensures outer {
-        full Part.Stmt (from 1 (sym.If ∷ sym.Name ∷ sym.Colon ∷ sym.Newline ∷ sym.Indent ∷ sym.If ∷ sym.Name ∷ sym.Colon ∷ sym.Pass ∷ sym.Newline ∷ sym.Dedent ∷ sym.Elif ∷ sym.Name ∷ sym.Colon ∷ sym.Pass ∷ sym.Newline ∷ sym.End ∷ []))
-        ≡ took (stmt.If (place 1) (name 2) (block.Lines (stmt.If (place 6) (name 7) (pass 9) [] None ∷ [])) (record { place = place 12; test = name 13; block = pass 15 } ∷ []) None) (from 17 (sym.End ∷ []))
-    }
+    ensures inner { full Part.Stmt (from 1 (sym.If ∷ sym.Name ∷ sym.Colon ∷ sym.Newline ∷ sym.Indent ∷ sym.If ∷ sym.Name ∷ sym.Colon ∷ sym.Pass ∷ sym.Newline ∷ sym.Elif ∷ sym.Name ∷ sym.Colon ∷ sym.Pass ∷ sym.Newline ∷ sym.Dedent ∷ sym.End ∷ []))
+        ≡ took (stmt.If (place 1) (name 2) (block.Lines (stmt.If (place 6) (name 7) (pass 9) (record { place = place 11; test = name 12; block = pass 14 } ∷ []) None ∷ [])) [] None) (from 17 (sym.End ∷ [])) }
+    ensures outer { full Part.Stmt (from 1 (sym.If ∷ sym.Name ∷ sym.Colon ∷ sym.Newline ∷ sym.Indent ∷ sym.If ∷ sym.Name ∷ sym.Colon ∷ sym.Pass ∷ sym.Newline ∷ sym.Dedent ∷ sym.Elif ∷ sym.Name ∷ sym.Colon ∷ sym.Pass ∷ sym.Newline ∷ sym.End ∷ []))
+        ≡ took (stmt.If (place 1) (name 2) (block.Lines (stmt.If (place 6) (name 7) (pass 9) [] None ∷ [])) (record { place = place 12; test = name 13; block = pass 15 } ∷ []) None) (from 17 (sym.End ∷ [])) }
 {}
 
 /// `return (1 +)` stops at `)`, `1 < 2 < 3` at the second `<`, and `x = y` in a module at `y`.
