@@ -2,7 +2,7 @@
 use Rattle.std.proofs.Common.{◌≡◌, Bool, true, false, not, ◌||◌, ◌&&◌, List, [], ◌∷◌, ◌++◌, refl, sym as flip, ◌∙◌, ap, subst}
 use Rattle.py_grammar.specs.declared.symbol.Sym.{Sym}
 use Rattle.py_grammar.specs.Parts.{Part}
-use Rattle.py_grammar.specs.Rules.{same, has, within, apart}
+use Rattle.py_grammar.specs.Rules.{is_printed, same, has, within, apart}
 use Rattle.py_grammar.specs.Sets.{begins, goes_on, null, first, on, is_plain}
 use Rattle.py_grammar.specs.Grammar.{rule}
 use Rattle.py_grammar.specs.Ahead.{ahead}
@@ -12,6 +12,11 @@ pub plain : (m : Part) → is_plain (ahead m) ≡ true
 unfolding rule ahead
 plain Part.Module = refl
 plain _ = refl
+
+pub printed : (m : Part) → is_printed (rule m) ≡ true
+unfolding rule
+printed Part.Module = refl
+printed _ = refl
 
 pub not_null : (m : Part) → null (ahead m) ≡ false
 unfolding rule ahead

@@ -1,5 +1,5 @@
 -- The parser of modules.
-use Rattle.std.proofs.Common.{◌≡◌, ℕ, ◌+◌, ◌*◌, ◌≤◌, ◌<◌, false, List, [], ◌∷◌, ◌++◌, length, refl, sym as flip, ◌∙◌, ap, subst, arith, append_assoc, append-nil}
+use Rattle.std.proofs.Common.{◌≡◌, ◌⊎◌, inl, inr, ℕ, ◌+◌, ◌*◌, ◌≤◌, ◌<◌, false, List, [], ◌∷◌, ◌++◌, length, refl, sym as flip, ◌∙◌, ap, subst, arith, append_assoc, append-nil}
 use Rattle.std.proofs.lemmas.List.{append_cancel_right}
 use Rattle.py_grammar.specs.declared.symbol.Symbol.{Symbol}
 use Rattle.py_grammar.specs.declared.module.Module.{Module}
@@ -181,3 +181,13 @@ one_place ts a b f g = pick (splits f.seen a g.seen b (flip f.before ∙ g.befor
     pick (alike e) = e
     pick (sooner s w e h) = absurd (f.hopeless g.tree ((s ∷ w) ++ g.more) (ap first_of h) (subst (λ l. IsModule g.tree l) (ap (λ l. l ++ g.more) e ∙ append_assoc f.seen (s ∷ w) g.more) g.goes_on))
     pick (later s w e h) = absurd (g.hopeless f.tree ((s ∷ w) ++ f.more) (ap first_of h) (subst (λ l. IsModule f.tree l) (ap (λ l. l ++ f.more) e ∙ append_assoc g.seen (s ∷ w) f.more) f.goes_on))
+
+-- ---- one of both
+
+pub module_or_place : (ts : List Symbol) → EndsOnce ts → ((m : Module) × IsModule m ts) ⊎ ((rest : List Symbol) × IsFirstHopeless ts rest)
+module_or_place ts once = by_outcome (full Part.Module ts) refl
+  where
+    by_outcome : (o : Outcome Module) → full Part.Module ts ≡ o → ((m : Module) × IsModule m ts) ⊎ ((rest : List Symbol) × IsFirstHopeless ts rest)
+    by_outcome (took m rest) e = inl (m, taken_is_derived ts m (e ∙ ap (took m) (nothing_left ts m rest once e)))
+    by_outcome (stuck rest) e = inr (rest, stops_at_first ts rest e)
+    by_outcome spent e = absurd (always_answers ts e)

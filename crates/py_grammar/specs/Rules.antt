@@ -34,6 +34,18 @@ pub data Rule : Code → Type 0 where
 abbrev pub Table : Type 0
 Table = (n : Part) → Rule (Made n)
 
+-- the rule has the forms of the printed grammar alone
+abbrev pub is_printed : {A : Code} → Rule A → Bool
+is_printed (one k) = true
+is_printed (part n) = true
+is_printed (r ~ s) = is_printed r && is_printed s
+is_printed (r ∣ s) = is_printed r && is_printed s
+is_printed (maybe r) = is_printed r
+is_printed (many r) = is_printed r
+is_printed (listed r) = is_printed r
+is_printed (r ⇒ f) = is_printed r
+is_printed (before fit r k s) = false
+
 -- `==` on kinds
 abbrev pub same : Sym → Sym → Bool
 same = sameb the_type

@@ -1,13 +1,13 @@
 //! What holds of the grammar and of its parser. Each function states a law, and does nothing.
 
-ghost use Rattle.std.specs.Prelude.{◌≡◌, ◌++◌, ℕ, List, []};
+ghost use Rattle.std.specs.Prelude.{◌≡◌, ◌++◌, ◌⊎◌, ℕ, true, List, []};
 ghost use Rattle.py_lexer.specs.declared.token.Token.{Token};
 ghost use Rattle.py_lexer.specs.Spans.{EndsOnce as TokensEndOnce};
 ghost use Rattle.py_grammar.specs.declared.symbol.Symbol.{Symbol};
 ghost use Rattle.py_grammar.specs.declared.module.Module.{Module};
 ghost use Rattle.py_grammar.specs.Codes.{Value};
 ghost use Rattle.py_grammar.specs.Parts.{Part, Made};
-ghost use Rattle.py_grammar.specs.Rules.{part};
+ghost use Rattle.py_grammar.specs.Rules.{part, is_printed};
 ghost use Rattle.py_grammar.specs.Grammar.{rule};
 ghost use Rattle.py_grammar.specs.Ahead.{ahead};
 ghost use Rattle.py_grammar.specs.Derives.{Derives};
@@ -15,6 +15,11 @@ ghost use Rattle.py_grammar.specs.Parser.{took, stuck, spent};
 ghost use Rattle.py_grammar.specs.Flow.{full};
 ghost use Rattle.py_grammar.specs.Symbols.{symbols};
 ghost use Rattle.py_grammar.specs.Whole.{IsModule, IsFirstHopeless, EndsOnce};
+
+/// The grammar that defines derivation has no rule that asks what a value is.
+pub fn grammar_is_printed()
+    ensures { (n : Part) → is_printed (rule n) ≡ true }
+{}
 
 /// The form of the grammar by which the parser looks ahead derives what the printed form derives, and nothing else.
 pub fn look_ahead_derives_the_same()
@@ -52,6 +57,11 @@ pub fn parser_stops_at_the_first_hopeless_symbol()
 pub fn hopeless_symbol_is_the_only_one()
     ensures one { (ts a b : List Symbol) → IsFirstHopeless ts a → IsFirstHopeless ts b → a ≡ b }
     ensures none { (ts rest : List Symbol) (m : Module) → IsFirstHopeless ts rest → IsModule m ts → ⊥ }
+{}
+
+/// Symbols that end once are those that some tree derives, or there is a first one with which no tree goes on.
+pub fn module_or_hopeless_symbol()
+    ensures { (ts : List Symbol) → EndsOnce ts → ((m : Module) × IsModule m ts) ⊎ ((rest : List Symbol) × IsFirstHopeless ts rest) }
 {}
 
 /// The symbols of a module have one End, which stands last. Where a source's symbols have that, the parser leaves nothing behind a
