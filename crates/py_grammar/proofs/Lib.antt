@@ -8,3 +8,4 @@ pub mod Steps
 pub mod Flow
 pub mod Ends
 pub mod Whole
+pub mod Places

@@ -10,4 +10,5 @@ pub mod Parser
 pub mod Flow
 pub mod Whole
 pub mod Rows
+pub mod Places
 pub mod Symbols

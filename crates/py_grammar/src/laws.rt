@@ -11,8 +11,10 @@ ghost use Rattle.py_grammar.specs.Rules.{part, is_printed};
 ghost use Rattle.py_grammar.specs.Grammar.{rule};
 ghost use Rattle.py_grammar.specs.Ahead.{ahead};
 ghost use Rattle.py_grammar.specs.Derives.{Derives};
-ghost use Rattle.py_grammar.specs.Parser.{took, stuck, spent};
+ghost use Rattle.py_grammar.specs.Parser.{took, stuck, spent, first_of};
 ghost use Rattle.py_grammar.specs.Flow.{full};
+ghost use Rattle.py_grammar.specs.Places.{has_place, place_in};
+ghost use Rattle.py_grammar.specs.Trees.{opt_map};
 ghost use Rattle.py_grammar.specs.Symbols.{symbols};
 ghost use Rattle.py_grammar.specs.Whole.{IsModule, IsFirstHopeless, EndsOnce};
 
@@ -57,6 +59,11 @@ pub fn parser_stops_at_the_first_hopeless_symbol()
 pub fn hopeless_symbol_is_the_only_one()
     ensures one { (ts a b : List Symbol) → IsFirstHopeless ts a → IsFirstHopeless ts b → a ≡ b }
     ensures none { (ts rest : List Symbol) (m : Module) → IsFirstHopeless ts rest → IsModule m ts → ⊥ }
+{}
+
+/// What a part makes has the place of its first symbol. Modules, blocks and subscripts have none.
+pub fn trees_stand_at_their_first_symbol()
+    ensures { (n : Part) (x : Value (Made n)) (u : List Symbol) → has_place n ≡ true → Derives rule (Made n) (part n) x u → place_in n x ≡ opt_map (λ t. t.place) (first_of u) }
 {}
 
 /// Symbols that end once are those that some tree derives, or there is a first one with which no tree goes on.

@@ -15,6 +15,7 @@ pub use laws::{
     derived_is_taken, end_stands_last, grammar_is_printed, hopeless_symbol_is_the_only_one,
     look_ahead_derives_the_same, module_or_hopeless_symbol, parser_answers,
     parser_stops_at_the_first_hopeless_symbol, taken_is_derived, tree_is_the_only_one,
+    trees_stand_at_their_first_symbol,
 };
 pub use module::{Class, ConstValue, Func, Import, Item, Member, Module, Param};
 pub use rows::{
