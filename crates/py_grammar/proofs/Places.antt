@@ -318,13 +318,16 @@ decorated {r = r} d _ _ w (one_more _ p ps v v' e es) h =
     let f = head_pair (one sym.At) r (λ t. Some t.place) (head_one sym.At) p v e in
     longer (Some p.0.place) (v ++ v') w (longer (Some p.0.place) v v' f)
 
+head_decorated : {A : Code} (r : Rule (Code.Pair Code.Tree Code.Symbol)) (s : Rule A) → Heads (Code.Pair (Code.ListOf (Code.Pair Code.Symbol (Code.Pair Code.Tree Code.Symbol))) (Code.Pair Code.Symbol A)) (many (one sym.At ~ r) ~ one sym.Def ~ s) (λ p. Some (first_place p.1.0.place p.0))
+head_decorated r s x u d =
+    let p = shape d in
+    let f = head_pair (one sym.Def) s (λ t. Some t.place) (head_one sym.Def) x.1 p.right p.latter in
+    let at : Option Place = Some (first_place x.1.0.place x.0) in
+    moved at at u (p.left ++ p.right) refl p.whole (decorated x.1.0.place x.0 p.left p.right (shape p.former) f)
+
 head_func : Heads Code.Func (part Part.Func) (λ f. Some f.place)
 unfolding rule
-head_func x u d =
-    let m = shape (shape d) in
-    let p = shape m.derived in
-    let f = head_pair (one sym.Def) _ (λ t. Some t.place) (head_one sym.Def) m.from.1 p.right p.latter in
-    moved (Some x.place) (Some (first_place m.from.1.0.place m.from.0)) u (p.left ++ p.right) (ap (λ f. Some f.place) m.made) p.whole (decorated m.from.1.0.place m.from.0 p.left p.right (shape p.former) f)
+head_func x u d = head_made Code.Func (λ f. Some f.place) _ _ (λ p. Some (first_place p.1.0.place p.0)) (head_decorated (part Part.Post ~ one sym.Newline) (one sym.Name ~ one sym.LParen ~ maybe (listed (part Part.Param)) ~ one sym.RParen ~ maybe (one sym.Arrow ~ part Part.Annotation) ~ one sym.Colon ~ part Part.Block)) (λ p. refl) x u (shape d)
 
 head_class : Heads Code.Class (part Part.Class) (λ c. Some c.place)
 unfolding rule

@@ -1,5 +1,5 @@
 -- The trees that the rules make of their symbols.
-use Rattle.std.specs.Prelude.{Bool, true, false, map, List, [], ◌∷◌, Option, Some, None}
+use Rattle.std.specs.Prelude.{is_some, Bool, true, false, map, List, [], ◌∷◌, Option, Some, None}
 use Rattle.puya_base.specs.declared.source.Place.{Place}
 use Rattle.py_grammar.specs.declared.symbol.Symbol.{Symbol}
 use Rattle.py_grammar.specs.declared.word.Word.{Word}
@@ -55,10 +55,6 @@ name_in _ = None
 
 unfoldable pub as_name : Tree → Option Word
 as_name t = name_in (out-Tree t)
-
-abbrev pub is_some : {A : Type 0} → Option A → Bool
-is_some None = false
-is_some (Some x) = true
 
 abbrev pub is_name : Tree → Bool
 is_name t = is_some (as_name t)
@@ -123,10 +119,6 @@ is_single e = single_in e.items e.comma
 abbrev pub head_of : List Tree → Option Tree
 head_of [] = None
 head_of (x ∷ xs) = Some x
-
-abbrev pub tail_of : Option (Option Tree) → Option Tree
-tail_of None = None
-tail_of (Some y) = y
 
 abbrev pub subscript : Exprs → Option (Option Tree) → Tree → Tree
 subscript e None x = tree.Index (place_of x) x e.items e.comma
