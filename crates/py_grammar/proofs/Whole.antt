@@ -104,12 +104,12 @@ pub stops_at_first : (ts rest : List Symbol) → full Part.Module ts ≡ stuck r
 unfolding full enough
 stops_at_first ts rest e = place_by (steps ts) ts rest (parsers (steps ts) Part.Module ts) (λ k le. good (steps ts) k le Part.Module ts) e
 
--- the parser always answers
-pub always_answers : (ts : List Symbol) → full Part.Module ts ≡ spent → ⊥
+-- the parser of a part always answers
+pub always_answers : (n : Part) (ts : List Symbol) → full n ts ≡ spent → ⊥
 unfolding full enough
-always_answers ts e = let low : rank Part.Module < 32 = small_rank Part.Module in by_outcome (parsers (steps ts) Part.Module ts) (part_runs (steps ts) Part.Module ts (omega (arith, low))) e
+always_answers n ts e = let low : rank n < 32 = small_rank n in by_outcome (parsers (steps ts) n ts) (part_runs (steps ts) n ts (omega (arith, low))) e
   where
-    by_outcome : (o : Outcome Module) → Runs false ts o → o ≡ spent → ⊥
+    by_outcome : (o : Outcome (Value (Made n))) → Runs false ts o → o ≡ spent → ⊥
     by_outcome (took x i) h e = cc
     by_outcome (stuck i) h e = cc
     by_outcome spent h e = h
@@ -190,4 +190,4 @@ module_or_place ts once = by_outcome (full Part.Module ts) refl
     by_outcome : (o : Outcome Module) → full Part.Module ts ≡ o → ((m : Module) × IsModule m ts) ⊎ ((rest : List Symbol) × IsFirstHopeless ts rest)
     by_outcome (took m rest) e = inl (m, taken_is_derived ts m (e ∙ ap (took m) (nothing_left ts m rest once e)))
     by_outcome (stuck rest) e = inr (rest, stops_at_first ts rest e)
-    by_outcome spent e = absurd (always_answers ts e)
+    by_outcome spent e = absurd (always_answers Part.Module ts e)

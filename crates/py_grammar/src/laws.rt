@@ -29,9 +29,9 @@ pub fn look_ahead_derives_the_same()
     ensures alone { (n : Part) (x : Value (Made n)) (u : List Symbol) → Derives ahead (Made n) (part n) x u → Derives rule (Made n) (part n) x u }
 {}
 
-/// The parser of modules answers with a tree or with the symbols at which it stands, whatever the symbols are.
+/// The parser of a part answers with a tree or with the symbols at which it stands, whatever the symbols are.
 pub fn parser_answers()
-    ensures { (ts : List Symbol) → full Part.Module ts ≡ spent → ⊥ }
+    ensures { (n : Part) (ts : List Symbol) → full n ts ≡ spent → ⊥ }
 {}
 
 /// What the parser takes as a tree, that tree derives; and so it is with the parser of each part.
