@@ -2,6 +2,11 @@
 #![tactic(auto)]
 
 mod answer;
+mod cursor;
+mod expression;
+mod level;
+mod place;
+mod lexeme;
 
 pub use answer::parse;
 pub use py_grammar::{
