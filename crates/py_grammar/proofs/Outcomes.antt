@@ -9,7 +9,7 @@ use Rattle.py_grammar.specs.Rules.{same, has}
 use Rattle.py_grammar.specs.Parser.{Outcome, took, stuck, spent, Parser, and_then, ◌>>=◌, pure, ◌<$>◌, first_of, sym_of, peek, take_symbol, expect, either}
 
 -- the value derives the symbols up to rest, and a second parser takes it too, whatever follows the first symbol of rest
-pub record Takes {A : Type 0} (D : A → List Symbol → Type 1) (q : Parser A) (ts : List Symbol) (x : A) (rest : List Symbol) : Type 1 where
+pub record Takes {A : Type 0} (D : A → List Symbol → Type 0) (q : Parser A) (ts : List Symbol) (x : A) (rest : List Symbol) : Type 0 where
   pub used : List Symbol
   pub whole : ts ≡ used ++ rest
   pub derives : D x used
@@ -17,7 +17,7 @@ pub record Takes {A : Type 0} (D : A → List Symbol → Type 1) (q : Parser A) 
 
 -- the symbols before rest can go on to something that is derived, and the second parser fails there too, whatever follows the
 -- first symbol of rest
-pub record Fails {A : Type 0} (D : A → List Symbol → Type 1) (q : Parser A) (ts : List Symbol) (rest : List Symbol) : Type 1 where
+pub record Fails {A : Type 0} (D : A → List Symbol → Type 0) (q : Parser A) (ts : List Symbol) (rest : List Symbol) : Type 0 where
   pub seen : List Symbol
   pub whole : ts ≡ seen ++ rest
   pub more : List Symbol
@@ -25,10 +25,10 @@ pub record Fails {A : Type 0} (D : A → List Symbol → Type 1) (q : Parser A) 
   pub viable : D value (seen ++ more)
   pub local : (other : List Symbol) → first_of rest ≡ first_of other → q (seen ++ other) ≡ stuck other
 
-abbrev pub Judge : {A : Type 0} → (A → List Symbol → Type 1) → Parser A → List Symbol → Outcome A → Type 1
+abbrev pub Judge : {A : Type 0} → (A → List Symbol → Type 0) → Parser A → List Symbol → Outcome A → Type 0
 Judge D q ts (took x rest) = Takes D q ts x rest
 Judge D q ts (stuck rest) = Fails D q ts rest
-Judge D q ts spent = Unit {1}
+Judge D q ts spent = Unit {0}
 
 same_first : (s r o : List Symbol) → first_of r ≡ first_of o → first_of (s ++ r) ≡ first_of (s ++ o)
 same_first [] r o h = h
@@ -37,7 +37,7 @@ same_first (t ∷ s) r o h = refl
 pub same_peek : (s r o : List Symbol) → first_of r ≡ first_of o → peek (s ++ r) ≡ peek (s ++ o)
 same_peek s r o h = ap sym_of (same_first s r o h)
 
-module _ {A B : Type 0} (D1 : A → List Symbol → Type 1) (p q : Parser A) (D : B → List Symbol → Type 1) (f g : A → Parser B)
+module _ {A B : Type 0} (D1 : A → List Symbol → Type 0) (p q : Parser A) (D : B → List Symbol → Type 0) (f g : A → Parser B)
     (ends : (x : A) (u : List Symbol) → D1 x u → (y : B) × (w : List Symbol) × D y (u ++ w))
     (goes : (x : A) (u mid : List Symbol) → D1 x u → Judge (λ y v. D y (u ++ v)) (g x) mid (f x mid)) where
   after : (ts mid : List Symbol) (x : A) → (t : Takes D1 q ts x mid) → (o : Outcome B) → Judge (λ y v. D y (t.used ++ v)) (g x) mid o → Judge D (q >>= g) ts o
@@ -77,7 +77,7 @@ module _ {A B : Type 0} (D1 : A → List Symbol → Type 1) (p q : Parser A) (D 
       }
   then_good ts spent j = tt
 
-module _ {A B : Type 0} (D1 : A → List Symbol → Type 1) (q : Parser A) (D : B → List Symbol → Type 1) (f : A → B) (derived : (x : A) (u : List Symbol) → D1 x u → D (f x) u) where
+module _ {A B : Type 0} (D1 : A → List Symbol → Type 0) (q : Parser A) (D : B → List Symbol → Type 0) (f : A → B) (derived : (x : A) (u : List Symbol) → D1 x u → D (f x) u) where
   pub map_good : (ts : List Symbol) (o : Outcome A) → Judge D1 q ts o → Judge D (f <$> q) ts (and_then o (λ x. pure (f x)))
   map_good ts (took x rest) j = record {
     used = j.used;
@@ -95,14 +95,14 @@ module _ {A B : Type 0} (D1 : A → List Symbol → Type 1) (q : Parser A) (D : 
   }
   map_good ts spent j = tt
 
-module _ {A : Type 0} (D1 D : A → List Symbol → Type 1) (q : Parser A) (derived : (x : A) (u : List Symbol) → D1 x u → D x u) where
+module _ {A : Type 0} (D1 D : A → List Symbol → Type 0) (q : Parser A) (derived : (x : A) (u : List Symbol) → D1 x u → D x u) where
   -- the same parser, of another relation
   pub read_as : (ts : List Symbol) (o : Outcome A) → Judge D1 q ts o → Judge D q ts o
   read_as ts (took x rest) j = record { used = j.used; whole = j.whole; derives = derived x j.used j.derives; local = j.local }
   read_as ts (stuck rest) j = record { seen = j.seen; whole = j.whole; more = j.more; value = j.value; viable = derived j.value _ j.viable; local = j.local }
   read_as ts spent j = tt
 
-module _ {A : Type 0} (D : A → List Symbol → Type 1) (ks : List Sym) (p q : Parser A) where
+module _ {A : Type 0} (D : A → List Symbol → Type 0) (ks : List Sym) (p q : Parser A) where
   -- the next symbol settles which parser goes on
   pub either_good : (ts : List Symbol) (b : Bool) → has (peek ts) ks ≡ b → (o : Outcome A) → Judge D (cond b p q) ts o → Judge D (either ks p q) ts o
   either_good ts b e (took x rest) j = record {
@@ -129,11 +129,11 @@ module _ {A : Type 0} (D : A → List Symbol → Type 1) (ks : List Sym) (p q : 
       settle false i e = ap (λ c. cond c (p i) (q i)) e
   either_good ts b e spent j = tt
 
-pub pure_good : {A : Type 0} (D : A → List Symbol → Type 1) (ts : List Symbol) (x : A) → D x [] → Judge D (pure x) ts (took x ts)
+pub pure_good : {A : Type 0} (D : A → List Symbol → Type 0) (ts : List Symbol) (x : A) → D x [] → Judge D (pure x) ts (took x ts)
 pure_good D ts x d = record { used = []; whole = refl; derives = d; local = λ other h. refl }
 
 -- the list is one symbol, which is of this kind
-pub data One (k : Sym) : Symbol → List Symbol → Type 1 where
+pub data One (k : Sym) : Symbol → List Symbol → Type 0 where
   one_symbol : (t : Symbol) → t.sym ≡ k → One k t (t ∷ [])
 
 pub same_eq : (a b : Sym) → same a b ≡ true → a ≡ b

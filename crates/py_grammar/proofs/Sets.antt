@@ -2,29 +2,31 @@
 use Rattle.std.proofs.Common.{◌≡◌, ℕ, zero, suc, ◌+◌, ◌≤◌, ◌<◌, Bool, true, false, cond, not, ◌||◌, ◌&&◌, List, [], ◌∷◌, ◌++◌, length, refl, sym as flip, ◌∙◌, ap, subst, arith}
 use Rattle.py_grammar.specs.declared.symbol.Sym.{Sym}
 use Rattle.py_grammar.specs.declared.symbol.Symbol.{Symbol}
+use Rattle.py_grammar.specs.Codes.{Code, Value}
 use Rattle.py_grammar.specs.Parts.{Part, Made}
 use Rattle.py_grammar.specs.Rules.{Rule, same, has, within, apart}
 use Rattle.py_grammar.specs.Sets.{begins, goes_on, null, first, on, is_plain}
 use Rattle.py_grammar.specs.Grammar.{rule}
+use Rattle.py_grammar.specs.Ahead.{ahead}
 use Rattle.py_grammar.proofs.Outcomes.{same_eq, eq_same}
 
-pub plain : (m : Part) → is_plain (rule m) ≡ true
-unfolding rule
+pub plain : (m : Part) → is_plain (ahead m) ≡ true
+unfolding rule ahead
 plain Part.Module = refl
 plain _ = refl
 
-pub not_null : (m : Part) → null (rule m) ≡ false
-unfolding rule
+pub not_null : (m : Part) → null (ahead m) ≡ false
+unfolding rule ahead
 not_null Part.Module = refl
 not_null _ = refl
 
-pub begun : (m : Part) → within (first (rule m)) (begins m) ≡ true
-unfolding rule
+pub begun : (m : Part) → within (first (ahead m)) (begins m) ≡ true
+unfolding rule ahead
 begun Part.Module = refl
 begun _ = refl
 
-pub gone : (m : Part) → within (on (rule m)) (goes_on m) ≡ true
-unfolding rule
+pub gone : (m : Part) → within (on (ahead m)) (goes_on m) ≡ true
+unfolding rule ahead
 gone Part.Module = refl
 gone _ = refl
 

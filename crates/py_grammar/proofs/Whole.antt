@@ -3,8 +3,10 @@ use Rattle.std.proofs.Common.{◌≡◌, ℕ, zero, suc, ◌+◌, ◌≤◌, ◌
 use Rattle.std.proofs.lemmas.List.{append_cancel_right}
 use Rattle.py_grammar.specs.declared.symbol.Symbol.{Symbol}
 use Rattle.py_grammar.specs.declared.module.Module.{Module}
+use Rattle.py_grammar.specs.Codes.{Code, Value}
 use Rattle.py_grammar.specs.Parts.{Part, Made}
 use Rattle.py_grammar.specs.Rules.{part}
+use Rattle.py_grammar.specs.Ahead.{ahead}
 use Rattle.py_grammar.specs.Derives.{Derives}
 use Rattle.py_grammar.specs.Parser.{Outcome, took, stuck, spent, Parser, first_of, peek, parse, parsers}
 use Rattle.py_grammar.specs.Whole.{IsModule, IsFirstHopeless, IsTaken, ParsesRight}
@@ -12,8 +14,8 @@ use Rattle.py_grammar.proofs.Outcomes.{Takes, Fails, Judge}
 use Rattle.py_grammar.proofs.Good.{good}
 use Rattle.py_grammar.proofs.Complete.{complete, height}
 
-abbrev DModule : Module → List Symbol → Type 1
-DModule = Derives Module (part Part.Module)
+abbrev DModule : Module → List Symbol → Type 0
+DModule = Derives ahead Code.Module (part Part.Module)
 
 abbrev value_or : Module → Outcome Module → Module
 value_or d (took x i) = x

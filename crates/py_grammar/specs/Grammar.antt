@@ -39,29 +39,30 @@ use Rattle.py_grammar.specs.declared.module.Item.{Item}
 use Rattle.py_grammar.specs.declared.module.Item.TheVariants as item
 use Rattle.py_grammar.specs.declared.module.ConstValue.{ConstValue}
 use Rattle.py_grammar.specs.declared.module.ConstValue.TheVariants as const
+use Rattle.py_grammar.specs.Codes.{Code, Value}
 use Rattle.py_grammar.specs.Parts.{Part, Made}
-use Rattle.py_grammar.specs.Rules.{Rule, one, part, ◌~◌, ◌∣◌, maybe, many, listed, before, ◌⇒◌, same, has}
-use Rattle.py_grammar.specs.Trees.{word, literal, place_of, is_name, argument, exprs_of, all_of, comma_of, items_of, has_comma, grouped, compared, raised, chosen, applied, is_single, subscript, literals, words, named, Dotted, valued, opt_map, first_place}
+use Rattle.py_grammar.specs.Rules.{Rule, Table, one, part, ◌~◌, ◌∣◌, maybe, many, listed, ◌⇒◌}
+use Rattle.py_grammar.specs.Trees.{word, literal, place_of, exprs_of, all_of, comma_of, items_of, has_comma, grouped, compared, raised, chosen, applied, literals, words, named, Dotted, valued, opt_map, first_place}
 
 -- operands with operators between them, which group to the left
-abbrev pub with_operators : Rule Tree → Rule BinaryOp → Rule Tree
+abbrev pub with_operators : Rule Code.Tree → Rule Code.BinaryOp → Rule Code.Tree
 with_operators r o = r ~ many (o ~ r) ⇒ (λ p. grouped p.0 p.1)
 
 -- an operator, and the symbol that it is
-abbrev pub is : {A : Type 0} → Sym → A → Rule A
+abbrev pub is : {A : Code} → Sym → Value A → Rule A
 is k o = one k ⇒ (λ t. o)
 
-abbrev pub strings : Rule (Symbol × List Symbol)
+abbrev pub strings : Rule (Code.Pair Code.Symbol (Code.ListOf Code.Symbol))
 strings = one sym.Str ~ many (one sym.Str)
 
-abbrev pub bytes : Rule (Symbol × List Symbol)
+abbrev pub bytes : Rule (Code.Pair Code.Symbol (Code.ListOf Code.Symbol))
 bytes = one sym.Bytes ~ many (one sym.Bytes)
 
 -- dotted : NAME ('.' NAME)*
-abbrev pub dotted : Rule Dotted
+abbrev pub dotted : Rule (Code.Pair Code.Symbol (Code.ListOf (Code.Pair Code.Symbol Code.Symbol)))
 dotted = one sym.Name ~ many (one sym.Dot ~ one sym.Name)
 
-abbrev pub comparison : Rule CompareOp
+abbrev pub comparison : Rule Code.CompareOp
 comparison =
     is sym.Less compare.Less
     ∣ is sym.Greater compare.Greater
@@ -72,7 +73,7 @@ comparison =
     ∣ is sym.In compare.In
     ∣ one sym.Not ~ one sym.In ⇒ (λ p. compare.NotIn)
 
-abbrev pub augment : Rule UpdateOp
+abbrev pub augment : Rule Code.UpdateOp
 augment =
     is sym.PlusEqual update.Add
     ∣ is sym.MinusEqual update.Sub
@@ -86,37 +87,31 @@ augment =
     ∣ is sym.LeftEqual update.ShiftLeft
     ∣ is sym.RightEqual update.ShiftRight
 
--- sub : exprs | [expr] ':' [expr]
-abbrev pub subscripted : Rule (Tree → Tree)
-subscripted =
-    one sym.Colon ~ maybe (part Part.Expr) ⇒ (λ p x. tree.Slice (place_of x) x None p.1)
-    ∣ before is_single (part Part.Exprs) sym.Colon (maybe (part Part.Expr)) ⇒ (λ p x. subscript p.0 p.1 x)
-
 -- '.' NAME | '(' [arg (',' arg)* [',']] ')' | '[' sub ']'
-abbrev pub suffix : Rule (Tree → Tree)
+abbrev pub suffix : Rule (Code.Arrow Code.Tree Code.Tree)
 suffix =
     one sym.Dot ~ one sym.Name ⇒ (λ p x. tree.Member (place_of x) x (word p.1))
     ∣ one sym.LParen ~ maybe (listed (part Part.Argument)) ~ one sym.RParen ⇒ (λ p x. tree.Call (place_of x) x (all_of p.1.0) (comma_of p.1.0))
-    ∣ one sym.LBracket ~ subscripted ~ one sym.RBracket ⇒ (λ p. p.1.0)
+    ∣ one sym.LBracket ~ part Part.Subscript ~ one sym.RBracket ⇒ (λ p. p.1.0)
 
 -- what may stand behind the expressions of a statement: '=' exprs | AUG expr | ':' type ['=' exprs]
-abbrev pub assignment : Rule (Exprs → Simple)
+abbrev pub assignment : Rule (Code.Arrow Code.Exprs Code.Simple)
 assignment =
     one sym.Assign ~ part Part.Exprs ⇒ (λ p e. simple.Assign e p.1)
     ∣ augment ~ part Part.Expr ⇒ (λ p e. simple.Update e p.0 p.1)
     ∣ one sym.Colon ~ part Part.Annotation ~ maybe (one sym.Assign ~ part Part.Exprs) ⇒ (λ p e. simple.Annotate e p.1.0 (opt_map (λ q. q.1) p.1.1))
 
 -- NAME ['as' NAME]
-abbrev pub imported : Rule Import
+abbrev pub imported : Rule Code.Import
 imported = one sym.Name ~ maybe (one sym.As ~ one sym.Name) ⇒ (λ p. record { name = word p.0; known_as = opt_map (λ q. word q.1) p.1 })
 
 -- names : NAME ['as' NAME] (',' NAME ['as' NAME])*, or in parentheses, with a comma or none behind the last
-abbrev pub names : Rule (Symbol → List Word → Item)
+abbrev pub names : Rule (Code.Arrow Code.Symbol (Code.Arrow (Code.ListOf Code.Word) Code.Item))
 names =
     imported ~ many (one sym.Comma ~ imported) ⇒ (λ p t w. item.From t.place w (p.0 ∷ map (λ q. q.1) p.1))
     ∣ one sym.LParen ~ listed imported ~ one sym.RParen ⇒ (λ p t w. item.FromParen t.place w p.1.0.0 p.1.0.1)
 
-abbrev pub constant : Rule ConstValue
+abbrev pub constant : Rule Code.ConstValue
 constant =
     one sym.Number ⇒ (λ t. const.Number (literal t))
     ∣ strings ⇒ (λ p. const.Text p.0.place (literals p))
@@ -124,7 +119,7 @@ constant =
     ∣ one sym.True ⇒ (λ t. const.Flag t.place true)
     ∣ one sym.False ⇒ (λ t. const.Flag t.place false)
 
-unfoldable pub rule : (n : Part) → Rule (Made n)
+unfoldable pub rule : Table
 rule Part.Module = many (part Part.Item) ~ one sym.End ⇒ (λ p. record { items = p.0 })
 rule Part.Item =
     strings ~ one sym.Newline ⇒ (λ p. item.Text p.0.0.place (literals p.0))
@@ -201,4 +196,9 @@ rule Part.Atom =
     ∣ one sym.False ⇒ (λ t. tree.Flag t.place false)
     ∣ one sym.LParen ~ maybe (part Part.Exprs) ~ one sym.RParen ⇒ (λ p. tree.Paren p.0.place (items_of p.1.0) (has_comma p.1.0))
     ∣ one sym.LBracket ~ maybe (part Part.Exprs) ~ one sym.RBracket ⇒ (λ p. tree.Display p.0.place (items_of p.1.0) (has_comma p.1.0))
-rule Part.Argument = before is_name (part Part.Expr) sym.Assign (part Part.Expr) ⇒ argument
+rule Part.Argument =
+    one sym.Name ~ one sym.Assign ~ part Part.Expr ⇒ (λ p. arg.Keyed (word p.0) p.1.1)
+    ∣ part Part.Expr ⇒ (λ x. arg.Plain x)
+rule Part.Subscript =
+    part Part.Exprs ⇒ (λ e x. tree.Index (place_of x) x e.items e.comma)
+    ∣ maybe (part Part.Expr) ~ one sym.Colon ~ maybe (part Part.Expr) ⇒ (λ p x. tree.Slice (place_of x) x p.0 p.1.1)

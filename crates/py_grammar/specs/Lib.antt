@@ -1,8 +1,10 @@
+pub mod Codes
 pub mod Parts
 pub mod Rules
 pub mod Sets
 pub mod Trees
 pub mod Grammar
+pub mod Ahead
 pub mod Derives
 pub mod Parser
 pub mod Whole

@@ -3,10 +3,11 @@ use Rattle.std.specs.Prelude.{◌≡◌, ℕ, zero, suc, Bool, true, false, cond
 use Rattle.py_grammar.specs.declared.symbol.Sym.{Sym}
 use Rattle.py_grammar.specs.declared.symbol.Sym.TheVariants as sym
 use Rattle.py_grammar.specs.declared.symbol.Symbol.{Symbol}
+use Rattle.py_grammar.specs.Codes.{Code, Value}
 use Rattle.py_grammar.specs.Parts.{Part, Made}
 use Rattle.py_grammar.specs.Rules.{Rule, one, part, ◌~◌, ◌∣◌, maybe, many, listed, before, ◌⇒◌, same, has}
 use Rattle.py_grammar.specs.Sets.{first}
-use Rattle.py_grammar.specs.Grammar.{rule}
+use Rattle.py_grammar.specs.Ahead.{ahead}
 
 -- a value and the symbols behind it, the symbols from the one on at which nothing goes on, or too small a bound
 pub data Outcome (A : Type 0) : Type 0 where
@@ -78,10 +79,10 @@ fit_for true k = k ∷ []
 fit_for false k = []
 
 abbrev pub Parsers : Type 0
-Parsers = (n : Part) → Parser (Made n)
+Parsers = (n : Part) → Parser (Value (Made n))
 
 -- the parser of a rule over those of the parts
-unfoldable pub parse : Parsers → ℕ → {A : Type 0} → Rule A → Parser A
+unfoldable pub parse : Parsers → ℕ → {A : Code} → Rule A → Parser (Value A)
 parse e n (one k) = expect k
 parse e n (part m) = e m
 parse e n (r ~ s) = parse e n r >>= (λ x. (λ y. (x, y)) <$> parse e n s)
@@ -95,4 +96,4 @@ parse e n (r ⇒ f) = f <$> parse e n r
 -- the parsers of all parts; the number bounds how deep they nest
 unfoldable pub parsers : ℕ → Parsers
 parsers zero m = λ i. spent
-parsers (suc n) m = parse (parsers n) n (rule m)
+parsers (suc n) m = parse (parsers n) n (ahead m)

@@ -1,24 +1,5 @@
--- The parts of a source that have a rule of their own, and the tree that each makes (Python reference, chapters 6 to 9).
-use Rattle.std.specs.Prelude.{Bool, List, Option}
-use Rattle.puya_base.specs.declared.source.Place.{Place}
-use Rattle.py_grammar.specs.declared.word.Word.{Word}
-use Rattle.py_grammar.specs.declared.word.Literal.{Literal}
-use Rattle.py_grammar.specs.declared.type_tree.TypeTree.{TypeTree}
-use Rattle.py_grammar.specs.declared.type_tree.TypeArg.{TypeArg}
-use Rattle.py_grammar.specs.declared.expression.Tree.{Tree}
-use Rattle.py_grammar.specs.declared.expression.Arg.{Arg}
-use Rattle.py_grammar.specs.declared.expression.Exprs.{Exprs as ExprsTree}
-use Rattle.py_grammar.specs.declared.statement.Simple.{Simple as SimpleTree}
-use Rattle.py_grammar.specs.declared.statement.Stmt.{Stmt as StmtTree}
-use Rattle.py_grammar.specs.declared.statement.Block.{Block as BlockTree}
-use Rattle.py_grammar.specs.declared.module.Param.{Param as ParamTree}
-use Rattle.py_grammar.specs.declared.module.Func.{Func as FuncTree}
-use Rattle.py_grammar.specs.declared.module.Member.{Member as MemberTree}
-use Rattle.py_grammar.specs.declared.module.Class.{Class as ClassTree}
-use Rattle.py_grammar.specs.declared.module.Import.{Import as ImportTree}
-use Rattle.py_grammar.specs.declared.module.Item.{Item as ItemTree}
-use Rattle.py_grammar.specs.declared.module.ConstValue.{ConstValue as ConstTree}
-use Rattle.py_grammar.specs.declared.module.Module.{Module as ModuleTree}
+-- The parts of a source that have a rule of their own, and what each makes (Python reference, chapters 6 to 9).
+use Rattle.py_grammar.specs.Codes.{Code, Value}
 
 pub data Part : Type 0 where
   Module : Part
@@ -51,21 +32,23 @@ pub data Part : Type 0 where
   Post : Part
   Atom : Part
   Argument : Part
+  Subscript : Part
 
-abbrev pub Made : Part → Type 0
-Made Part.Module = ModuleTree
-Made Part.Item = ItemTree
-Made Part.Import = ItemTree
-Made Part.Const = ItemTree
-Made Part.Class = ClassTree
-Made Part.Member = MemberTree
-Made Part.Func = FuncTree
-Made Part.Param = ParamTree
-Made Part.Annotation = TypeTree
-Made Part.TypeArgument = TypeArg
-Made Part.Block = BlockTree
-Made Part.Stmt = StmtTree
-Made Part.Simple = SimpleTree
-Made Part.Exprs = ExprsTree
-Made Part.Argument = Arg
-Made _ = Tree
+abbrev pub Made : Part → Code
+Made Part.Module = Code.Module
+Made Part.Item = Code.Item
+Made Part.Import = Code.Item
+Made Part.Const = Code.Item
+Made Part.Class = Code.Class
+Made Part.Member = Code.Member
+Made Part.Func = Code.Func
+Made Part.Param = Code.Param
+Made Part.Annotation = Code.TypeTree
+Made Part.TypeArgument = Code.TypeArg
+Made Part.Block = Code.Block
+Made Part.Stmt = Code.Stmt
+Made Part.Simple = Code.Simple
+Made Part.Exprs = Code.Exprs
+Made Part.Argument = Code.Arg
+Made Part.Subscript = Code.Arrow Code.Tree Code.Tree
+Made _ = Code.Tree

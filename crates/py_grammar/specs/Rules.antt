@@ -5,31 +5,36 @@ use Rattle.py_grammar.specs.contracts.symbol.Sym.{the_type}
 use Rattle.py_grammar.specs.declared.symbol.Sym.{Sym}
 use Rattle.py_grammar.specs.declared.symbol.Sym.TheVariants as sym
 use Rattle.py_grammar.specs.declared.symbol.Symbol.{Symbol}
+use Rattle.py_grammar.specs.Codes.{Code, Value}
 use Rattle.py_grammar.specs.Parts.{Part, Made}
 
 infixr 7 ◌~◌
 infixr 6 ◌⇒◌
 infixr 5 ◌∣◌
--- One constructor for each form that the printed grammar has.
-pub data Rule : Type 0 → Type 1 where
+-- One constructor for each form that the printed grammar has, and one more.
+pub data Rule : Code → Type 0 where
   -- a symbol of a kind
-  one : Sym → Rule Symbol
+  one : Sym → Rule Code.Symbol
   -- a part
   part : (n : Part) → Rule (Made n)
   -- r s
-  ◌~◌ : {A B : Type 0} → Rule A → Rule B → Rule (A × B)
+  ◌~◌ : {A B : Code} → Rule A → Rule B → Rule (Code.Pair A B)
   -- r | s
-  ◌∣◌ : {A : Type 0} → Rule A → Rule A → Rule A
+  ◌∣◌ : {A : Code} → Rule A → Rule A → Rule A
   -- [r]
-  maybe : {A : Type 0} → Rule A → Rule (Option A)
+  maybe : {A : Code} → Rule A → Rule (Code.OptionOf A)
   -- r*
-  many : {A : Type 0} → Rule A → Rule (List A)
+  many : {A : Code} → Rule A → Rule (Code.ListOf A)
   -- r (',' r)* [',']: the values, and whether a comma stands behind the last
-  listed : {A : Type 0} → Rule A → Rule (List A × Bool)
-  -- r | r k s, the second only where what r makes is fit for it
-  before : {A B : Type 0} → (A → Bool) → Rule A → Sym → Rule B → Rule (A × Option B)
+  listed : {A : Code} → Rule A → Rule (Code.Pair (Code.ListOf A) Code.Flag)
   -- r, and the value that is made of its own
-  ◌⇒◌ : {A B : Type 0} → Rule A → (A → B) → Rule B
+  ◌⇒◌ : {A B : Code} → Rule A → (Value A → Value B) → Rule B
+  -- r | r k s, the second only where what r makes is fit for it; the printed grammar has none
+  before : {A B : Code} → (Value A → Bool) → Rule A → Sym → Rule B → Rule (Code.Pair A (Code.OptionOf B))
+
+-- the rule of each part
+abbrev pub Table : Type 0
+Table = (n : Part) → Rule (Made n)
 
 -- `==` on kinds
 abbrev pub same : Sym → Sym → Bool

@@ -2,6 +2,7 @@
 use Rattle.std.specs.Prelude.{◌≡◌, Bool, true, false, ◌||◌, ◌&&◌, not, cond, List, [], ◌∷◌, ◌++◌}
 use Rattle.py_grammar.specs.declared.symbol.Sym.{Sym}
 use Rattle.py_grammar.specs.declared.symbol.Sym.TheVariants as sym
+use Rattle.py_grammar.specs.Codes.{Code}
 use Rattle.py_grammar.specs.Parts.{Part}
 use Rattle.py_grammar.specs.Rules.{Rule, one, part, ◌~◌, ◌∣◌, maybe, many, listed, before, ◌⇒◌, has, within, apart}
 
@@ -53,6 +54,7 @@ begins Part.Power = atoms
 begins Part.Post = atoms
 begins Part.Atom = atoms
 begins Part.Argument = starters
+begins Part.Subscript = sym.Colon ∷ starters
 
 abbrev pub behind_post : List Sym
 behind_post = sym.Dot ∷ sym.LParen ∷ sym.LBracket ∷ sym.Str ∷ sym.Bytes ∷ []
@@ -89,6 +91,7 @@ goes_on Part.Stmt = sym.Elif ∷ sym.Else ∷ []
 goes_on Part.Simple = sym.Assign ∷ sym.Colon ∷ augmented ++ behind_exprs
 goes_on Part.Exprs = behind_exprs
 goes_on Part.Argument = sym.Assign ∷ behind_expr
+goes_on Part.Subscript = sym.Colon ∷ behind_exprs
 goes_on Part.Expr = behind_expr
 goes_on Part.Or = sym.Or ∷ sym.And ∷ behind_cmp
 goes_on Part.And = sym.And ∷ behind_cmp
@@ -109,7 +112,7 @@ goes_on _ = []
 -- ---- of the rules
 
 -- the rule derives no symbols at all
-abbrev pub null : {A : Type 0} → Rule A → Bool
+abbrev pub null : {A : Code} → Rule A → Bool
 null (one k) = false
 null (part n) = false
 null (r ~ s) = null r && null s
@@ -120,7 +123,7 @@ null (listed r) = null r
 null (before fit r k s) = null r
 null (r ⇒ f) = null r
 
-abbrev pub first : {A : Type 0} → Rule A → List Sym
+abbrev pub first : {A : Code} → Rule A → List Sym
 first (one k) = k ∷ []
 first (part n) = begins n
 first (r ~ s) = first r ++ cond (null r) (first s) []
@@ -132,7 +135,7 @@ first (before fit r k s) = first r
 first (r ⇒ f) = first r
 
 -- the kinds with which what a rule derived may go on
-abbrev pub on : {A : Type 0} → Rule A → List Sym
+abbrev pub on : {A : Code} → Rule A → List Sym
 on (one k) = []
 on (part n) = goes_on n
 on (r ~ s) = on s ++ cond (null s) (on r) []
@@ -144,7 +147,7 @@ on (before fit r k s) = k ∷ on r ++ on s
 on (r ⇒ f) = on r
 
 -- one symbol of look-ahead shows how to go on
-abbrev pub is_plain : {A : Type 0} → Rule A → Bool
+abbrev pub is_plain : {A : Code} → Rule A → Bool
 is_plain (one k) = true
 is_plain (part n) = true
 is_plain (r ~ s) = apart (on r) (first s) && (is_plain r && is_plain s)

@@ -3,17 +3,19 @@
 use Rattle.std.specs.Prelude.{◌≡◌, ℕ, ◌≤◌, List, [], ◌∷◌, ◌++◌}
 use Rattle.py_grammar.specs.declared.symbol.Symbol.{Symbol}
 use Rattle.py_grammar.specs.declared.module.Module.{Module}
+use Rattle.py_grammar.specs.Codes.{Code}
 use Rattle.py_grammar.specs.Parts.{Part, Made}
 use Rattle.py_grammar.specs.Rules.{part}
+use Rattle.py_grammar.specs.Ahead.{ahead}
 use Rattle.py_grammar.specs.Derives.{Derives}
 use Rattle.py_grammar.specs.Parser.{took, stuck, first_of, parsers}
 
 -- the tree derives the symbols
-abbrev pub IsModule : Module → List Symbol → Type 1
-IsModule m ts = Derives Module (part Part.Module) m ts
+abbrev pub IsModule : Module → List Symbol → Type 0
+IsModule m ts = Derives ahead Code.Module (part Part.Module) m ts
 
 -- The symbols up to and with the first of rest begin no module, and those before it begin one.
-pub record IsFirstHopeless (ts rest : List Symbol) : Type 1 where
+pub record IsFirstHopeless (ts rest : List Symbol) : Type 0 where
   pub seen : List Symbol
   pub before : ts ≡ seen ++ rest
   pub tree : Module
@@ -26,7 +28,7 @@ pub record IsTaken (ts : List Symbol) (m : Module) : Type 0 where
   pub bound : ℕ
   pub taken : (n : ℕ) → bound ≤ n → parsers n Part.Module ts ≡ took m []
 
-pub record ParsesRight : Type 1 where
+pub record ParsesRight : Type 0 where
   -- what is taken is derived
   pub sound : (n : ℕ) (ts : List Symbol) (m : Module) → parsers n Part.Module ts ≡ took m [] → IsModule m ts
   -- what is derived is taken
