@@ -1,1 +1,6 @@
-pub mod Flow
+pub mod Ranks
+pub mod Climbs
+pub mod Names
+pub mod Suffixes
+pub mod Lists
+pub mod Words

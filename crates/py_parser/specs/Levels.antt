@@ -6,7 +6,12 @@ use Rattle.py_grammar.specs.declared.symbol.Symbol.{Symbol}
 use Rattle.py_grammar.specs.declared.expression.Tree.{Tree}
 use Rattle.py_grammar.specs.declared.expression.BinaryOp.{BinaryOp}
 use Rattle.py_grammar.specs.declared.expression.BinaryOp.TheVariants as op
+use Rattle.py_grammar.specs.declared.expression.UnaryOp.{UnaryOp}
+use Rattle.py_grammar.specs.declared.expression.UnaryOp.TheVariants as unary
+use Rattle.py_grammar.specs.declared.statement.UpdateOp.{UpdateOp}
+use Rattle.py_grammar.specs.declared.statement.UpdateOp.TheVariants as update
 use Rattle.py_grammar.specs.Parts.{Part, Made}
+use Rattle.py_grammar.specs.Codes.{Code}
 use Rattle.py_grammar.specs.Rules.{Rule, part, many, ◌~◌, ◌∣◌, same, has}
 use Rattle.py_grammar.specs.Sets.{starters}
 use Rattle.py_grammar.specs.Parser.{Parser, ◌<$>◌, pure}
@@ -53,6 +58,17 @@ tree_at level.Atom = full Part.Atom
 
 -- ---- operators that group to the left
 
+-- the level is one of those
+abbrev pub groups : Level → Bool
+groups level.Choice = false
+groups level.Not = false
+groups level.Compare = false
+groups level.Unary = false
+groups level.Power = false
+groups level.Post = false
+groups level.Atom = false
+groups _ = true
+
 abbrev pub operand : Level → Level
 operand level.Or = level.And
 operand level.And = level.Not
@@ -76,7 +92,7 @@ sum s = when (same s sym.Plus) op.Add (when (same s sym.Minus) op.Sub None)
 abbrev pub term : Sym → Option BinaryOp
 term s = when (same s sym.Star) op.Mul (when (same s sym.Slash) op.Div (when (same s sym.Floor) op.FloorDiv (when (same s sym.Percent) op.Mod None)))
 
-abbrev pub operator : Level → Sym → Option BinaryOp
+unfoldable pub operator : Level → Sym → Option BinaryOp
 operator level.Or s = when (same s sym.Or) op.Or None
 operator level.And s = when (same s sym.And) op.And None
 operator level.BitOr s = when (same s sym.Bar) op.BitOr None
@@ -87,19 +103,38 @@ operator level.Sum s = sum s
 operator level.Term s = term s
 operator _ s = None
 
+abbrev pub more : Rule Code.BinaryOp → Rule Code.Tree → Tree → Parser Tree
+more o r x = (λ ps. grouped x ps) <$> run (many (o ~ r))
+
 -- the operators that are left behind an expression, and their operands
 unfoldable pub climb : Level → Tree → Parser Tree
-climb level.Or x = (λ ps. grouped x ps) <$> run (many (is sym.Or op.Or ~ part Part.And))
-climb level.And x = (λ ps. grouped x ps) <$> run (many (is sym.And op.And ~ part Part.Not))
-climb level.BitOr x = (λ ps. grouped x ps) <$> run (many (is sym.Bar op.BitOr ~ part Part.BitXor))
-climb level.BitXor x = (λ ps. grouped x ps) <$> run (many (is sym.Caret op.BitXor ~ part Part.BitAnd))
-climb level.BitAnd x = (λ ps. grouped x ps) <$> run (many (is sym.Amp op.BitAnd ~ part Part.Shift))
-climb level.Shift x = (λ ps. grouped x ps) <$> run (many ((is sym.Left op.ShiftLeft ∣ is sym.Right op.ShiftRight) ~ part Part.Sum))
-climb level.Sum x = (λ ps. grouped x ps) <$> run (many ((is sym.Plus op.Add ∣ is sym.Minus op.Sub) ~ part Part.Term))
-climb level.Term x = (λ ps. grouped x ps) <$> run (many ((is sym.Star op.Mul ∣ is sym.Slash op.Div ∣ is sym.Floor op.FloorDiv ∣ is sym.Percent op.Mod) ~ part Part.Unary))
+climb level.Or x = more (is sym.Or op.Or) (part Part.And) x
+climb level.And x = more (is sym.And op.And) (part Part.Not) x
+climb level.BitOr x = more (is sym.Bar op.BitOr) (part Part.BitXor) x
+climb level.BitXor x = more (is sym.Caret op.BitXor) (part Part.BitAnd) x
+climb level.BitAnd x = more (is sym.Amp op.BitAnd) (part Part.Shift) x
+climb level.Shift x = more (is sym.Left op.ShiftLeft ∣ is sym.Right op.ShiftRight) (part Part.Sum) x
+climb level.Sum x = more (is sym.Plus op.Add ∣ is sym.Minus op.Sub) (part Part.Term) x
+climb level.Term x = more (is sym.Star op.Mul ∣ is sym.Slash op.Div ∣ is sym.Floor op.FloorDiv ∣ is sym.Percent op.Mod) (part Part.Unary) x
 climb _ x = pure x
 
--- ---- what an expression begins with
+-- ---- symbols
 
-abbrev pub begins : Sym → Bool
+-- an operator before its operand
+unfoldable pub sign : Sym → Option UnaryOp
+sign s = when (same s sym.Plus) unary.Plus (when (same s sym.Minus) unary.Minus (when (same s sym.Tilde) unary.Invert None))
+
+-- an expression begins with it
+unfoldable pub begins : Sym → Bool
 begins s = has s starters
+
+abbrev pub comparers : List Sym
+comparers = sym.Less ∷ sym.Greater ∷ sym.AtMost ∷ sym.AtLeast ∷ sym.Equal ∷ sym.NotEqual ∷ sym.In ∷ sym.Not ∷ []
+
+-- an operator of comparison begins with it
+unfoldable pub compares : Sym → Bool
+compares s = has s comparers
+
+-- what stands behind an expression begins with it
+unfoldable pub goes_on : Sym → Bool
+goes_on s = has s (sym.Dot ∷ sym.LParen ∷ sym.LBracket ∷ [])

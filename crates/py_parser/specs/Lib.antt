@@ -3,4 +3,8 @@ pub mod Lexemes
 pub mod Reads
 pub mod Flow
 pub mod Levels
+pub mod Expressions
+pub mod Types
+pub mod Statements
+pub mod Modules
 pub mod Nests

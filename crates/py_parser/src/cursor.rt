@@ -1,12 +1,14 @@
 //! A cursor over lexemes.
 
-ghost use Rattle.std.specs.Prelude.{◌≡◌, ◌≤◌, ◌<◌, length, OnOk, IfOk};
+ghost use Rattle.std.specs.Prelude.{◌≡◌, ◌≤◌, ◌<◌, ◌+◌, length, OnOk};
 ghost use Rattle.py_grammar.specs.Rules.{same};
 ghost use Rattle.py_grammar.specs.Parser as spec;
-ghost use Rattle.py_parser.specs.Lexemes.{symbol, seen};
+ghost use Rattle.py_parser.specs.Expressions.{place_at};
+ghost use Rattle.py_parser.specs.Lexemes.{seen};
 ghost use Rattle.py_parser.specs.Reads.{Reads, ReadsLexeme};
 
 use crate::lexeme::Lexeme;
+use puya_base::{Memory, Place};
 use py_grammar::Sym;
 use std::alloc::{AllocError, AllocFailed};
 use std::marker::Model;
@@ -37,6 +39,17 @@ impl<T: Drop> From<AllocFailed<T>> for Stop {
     ghost from_gives = { λ _ e. e ≡ Memory };
 
     fn from(_error: AllocFailed<T>) -> Stop {
+        Stop::Memory
+    }
+}
+
+impl From<Memory> for Stop {
+    ghost use Rattle.std.specs.Prelude.{◌≡◌};
+    ghost use Rattle.py_parser.specs.declared.cursor.Stop.{Stop};
+
+    ghost from_gives = { λ _ e. e ≡ Stop.Memory };
+
+    fn from(_error: Memory) -> Stop {
         Stop::Memory
     }
 }
@@ -97,6 +110,24 @@ impl<'a> Cursor<'a> {
         same(self.peek(), sym)
     }
 
+    /// How many lexemes are left, and one more.
+    pub fn room(&self) -> usize
+        ensures { result ≡ length self.now + 1 }
+    {
+        self.lexemes.len() - self.at + 1
+    }
+
+    /// The place of the next lexeme; behind the last, no place of the source.
+    pub fn place(&self) -> Place
+        ensures { result ≡ place_at self.now }
+    {
+        match self.lexemes.get(self.at) {
+            Some(lexeme) => lexeme.place,
+            None => Place { line: 0, col: 0 },
+        }
+    }
+
+    /// Takes the next lexeme.
     pub fn take(&mut self) -> Result<Lexeme<'a>, Stop>
         ensures reads { ReadsLexeme (spec.take_symbol self.old) result self.new }
         ensures fewer { OnOk result (length self.new < length self.old) }

@@ -3,7 +3,7 @@
 ghost use Rattle.std.specs.Prelude.{◌≡◌};
 ghost use Rattle.py_parser.specs.Levels as spec;
 
-use py_grammar::{BinaryOp, CompareOp, Sym, UnaryOp};
+use py_grammar::{BinaryOp, Sym, UnaryOp};
 
 /// The levels of expressions, from the loosest to the tightest.
 #[derive(Clone, Copy, Debug, PartialEq, Eq)]
@@ -44,6 +44,7 @@ impl Level {
     }
 
     /// The operator that a symbol is at a level whose operators group to the left.
+    #[tactic(auto, unfolding(crate::specs::Levels::operator))]
     pub fn operator(self, sym: Sym) -> Option<BinaryOp>
         ensures { result ≡ spec.operator self sym }
     {
@@ -93,7 +94,21 @@ fn term(sym: Sym) -> Option<BinaryOp>
     }
 }
 
+/// The operator that a symbol is before its operand (6.6).
+#[tactic(auto, unfolding(crate::specs::Levels::sign))]
+pub fn sign(sym: Sym) -> Option<UnaryOp>
+    ensures { result ≡ spec.sign sym }
+{
+    match sym {
+        Sym::Plus => Some(UnaryOp::Plus),
+        Sym::Minus => Some(UnaryOp::Minus),
+        Sym::Tilde => Some(UnaryOp::Invert),
+        _ => None,
+    }
+}
+
 /// Whether an expression begins with a symbol.
+#[tactic(auto, unfolding(crate::specs::Levels::begins))]
 pub fn begins(sym: Sym) -> bool
     ensures { result ≡ spec.begins sym }
 {
@@ -112,4 +127,30 @@ pub fn begins(sym: Sym) -> bool
             | Sym::LParen
             | Sym::LBracket
     )
+}
+
+/// Whether an operator of comparison begins with a symbol (6.10).
+#[tactic(auto, unfolding(crate::specs::Levels::compares))]
+pub fn compares(sym: Sym) -> bool
+    ensures { result ≡ spec.compares sym }
+{
+    matches!(
+        sym,
+        Sym::Less
+            | Sym::Greater
+            | Sym::AtMost
+            | Sym::AtLeast
+            | Sym::Equal
+            | Sym::NotEqual
+            | Sym::In
+            | Sym::Not
+    )
+}
+
+/// Whether what may stand behind an atom begins with a symbol (6.3).
+#[tactic(auto, unfolding(crate::specs::Levels::goes_on))]
+pub fn goes_on(sym: Sym) -> bool
+    ensures { result ≡ spec.goes_on sym }
+{
+    matches!(sym, Sym::Dot | Sym::LParen | Sym::LBracket)
 }

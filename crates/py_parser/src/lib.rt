@@ -2,11 +2,22 @@
 #![tactic(auto)]
 
 mod answer;
+mod atom;
+mod build;
+mod class;
 mod cursor;
 mod expression;
+mod func;
+mod import;
 mod level;
-mod place;
 mod lexeme;
+mod module;
+mod place;
+mod postfix;
+mod signature;
+mod simple;
+mod statement;
+mod types;
 
 pub use answer::parse;
 pub use py_grammar::{
