@@ -4,4 +4,7 @@ pub mod Sets
 pub mod Shapes
 pub mod Printed
 pub mod Complete
+pub mod Steps
+pub mod Flow
+pub mod Ends
 pub mod Whole

@@ -1,6 +1,5 @@
 -- The form with look-ahead derives what the printed form derives, and nothing else.
-use Rattle.std.proofs.Common.{◌≡◌, ℕ, Bool, true, false, List, [], ◌∷◌, ◌++◌, Option, Some, None, refl, sym as flip, ◌∙◌, ap, subst, append-nil, append_assoc}
-use Rattle.py_grammar.specs.declared.symbol.Sym.{Sym}
+use Rattle.std.proofs.Common.{◌≡◌, Bool, true, false, List, [], ◌∷◌, ◌++◌, Option, Some, None, refl, sym as flip, ◌∙◌, ap, subst, append-nil}
 use Rattle.py_grammar.specs.declared.symbol.Sym.TheVariants as sym
 use Rattle.py_grammar.specs.declared.symbol.Symbol.{Symbol}
 use denote.Hole.Carrier.{out}
@@ -13,11 +12,11 @@ use Rattle.py_grammar.specs.declared.expression.BinaryOp.{BinaryOp}
 use Rattle.py_grammar.specs.Codes.{Code, Value}
 use Rattle.py_grammar.specs.Parts.{Part, Made}
 use Rattle.py_grammar.specs.Rules.{Rule, Table, one, part, ◌~◌, ◌∣◌, maybe, many, listed, before, ◌⇒◌}
-use Rattle.py_grammar.specs.Trees.{word, place_of, as_name, is_name, is_some, argument, keyed, exprs_of, grouped, applied, raised, compared, chosen, is_single, single_in, subscript, head_of}
+use Rattle.py_grammar.specs.Trees.{word, place_of, as_name, is_name, argument, keyed, exprs_of, grouped, applied, raised, compared, chosen, is_single, single_in, subscript, head_of}
 use Rattle.py_grammar.specs.Grammar.{rule, with_operators, suffix}
 use Rattle.py_grammar.specs.Ahead.{ahead}
 use Rattle.py_grammar.specs.Derives.{Derives, DerivesMany, DerivesListed, a_symbol, a_part, in_turn, the_first, the_second, absent, present, repeated, in_a_list, alone, with_more, made_of, none_left, one_more, the_last, last_comma, more_listed}
-use Rattle.py_grammar.proofs.Shapes.{InTurn, OneOf, former, latter, MayBe, nothing, something, Behind, bare, followed, MadeOf, IsOne, Shape, shape, recast}
+use Rattle.py_grammar.proofs.Shapes.{OneOf, former, latter, MayBe, nothing, something, Behind, bare, followed, MadeOf, Shape, shape, recast}
 
 -- ---- a name alone
 

@@ -1,5 +1,5 @@
 -- What a derivation of each form of rule is made of.
-use Rattle.std.proofs.Common.{◌≡◌, ℕ, Bool, true, false, List, [], ◌∷◌, ◌++◌, Option, Some, None, refl}
+use Rattle.std.proofs.Common.{◌≡◌, Bool, true, List, [], ◌∷◌, ◌++◌, Option, Some, None, refl}
 use Rattle.py_grammar.specs.declared.symbol.Sym.{Sym}
 use Rattle.py_grammar.specs.declared.symbol.Symbol.{Symbol}
 use Rattle.py_grammar.specs.Codes.{Code, Value}
