@@ -1,5 +1,5 @@
 -- The parsers of expressions, in the words of their code.
-use Rattle.std.specs.Prelude.{◌≡◌, Bool, true, false, ◌&&◌, List, [], ◌∷◌, ◌++◌, Option, Some, None}
+use Rattle.std.specs.Prelude.{◌≡◌, Bool, true, false, cond, List, [], ◌∷◌, ◌++◌, Option, Some, None}
 use Rattle.puya_base.specs.declared.source.Place.{Place}
 use Rattle.py_grammar.specs.declared.symbol.Sym.{Sym}
 use Rattle.py_grammar.specs.declared.symbol.Sym.TheVariants as sym
@@ -19,10 +19,10 @@ use Rattle.py_grammar.specs.declared.expression.UnaryOp.TheVariants as unary
 use Rattle.py_grammar.specs.Parts.{Part, Made}
 use Rattle.py_grammar.specs.Codes.{Code, Value}
 use Rattle.py_grammar.specs.Rules.{Rule, one, part, many, same, has}
-use Rattle.py_grammar.specs.Parser.{Outcome, Parser, ◌>>=◌, ◌<$>◌, pure, first_of, peek, take_symbol, expect}
+use Rattle.py_grammar.specs.Parser.{Outcome, Parser, took, ◌>>=◌, ◌<$>◌, pure, either, fit_for, first_of, peek, take_symbol, expect}
 use Rattle.py_grammar.specs.Trees.{word, literal, place_of, as_name, single_in, head_of, exprs_of, applied}
 use Rattle.py_grammar.specs.Grammar.{suffix as suffix_rule}
-use Rattle.py_parser.specs.Flow.{full, run, listing, gather}
+use Rattle.py_grammar.specs.Flow.{full, run, listing, gather}
 use Rattle.py_parser.specs.declared.level.Level.{Level}
 use Rattle.py_parser.specs.declared.level.Level.TheVariants as level
 use Rattle.py_parser.specs.Levels.{tree_at, operand, operator, climb, sign, begins, compares}
@@ -35,17 +35,13 @@ place_in (Some t) = t.place
 abbrev pub place_at : List Symbol → Place
 place_at ts = place_in (first_of ts)
 
-abbrev pub by : {A : Type 0} → Bool → Parser A → Parser A → Parser A
-by true p q = p
-by false p q = q
-
 -- the first parser where the next symbol is of this kind, else the second
 abbrev pub on : {A : Type 0} → Sym → Parser A → Parser A → Parser A
-on k p q = λ i. by (same (peek i) k) p q i
+on k p q = either (k ∷ []) p q
 
 -- the first parser where an expression begins, else the second
 abbrev pub on_expr : {A : Type 0} → Parser A → Parser A → Parser A
-on_expr p q = λ i. by (begins (peek i)) p q i
+on_expr p q = λ i. cond (begins (peek i)) (p i) (q i)
 
 -- ---- choices, comparisons and operators
 
@@ -56,19 +52,19 @@ unfoldable pub choice : Parser Tree
 choice = full Part.Or >>= (λ x. on sym.If (condition >>= (λ q. pure (tree.Choose (place_of x) x q.0 q.1))) (pure x))
 
 unfoldable pub denial : Parser Tree
-denial = on sym.Not (take_symbol >>= (λ t. (λ x. tree.Unary t.place unary.Not x) <$> full Part.Not)) (full Part.Cmp)
+denial = on sym.Not (expect sym.Not >>= (λ t. (λ x. tree.Unary t.place unary.Not x) <$> full Part.Not)) (full Part.Cmp)
 
 unfoldable pub not_in : Parser CompareOp
 not_in = expect sym.Not >>= (λ t. (λ u. compare.NotIn) <$> expect sym.In)
 
 abbrev pub compare_by : Sym → Parser CompareOp
-compare_by sym.Less = (λ t. compare.Less) <$> take_symbol
-compare_by sym.Greater = (λ t. compare.Greater) <$> take_symbol
-compare_by sym.AtMost = (λ t. compare.AtMost) <$> take_symbol
-compare_by sym.AtLeast = (λ t. compare.AtLeast) <$> take_symbol
-compare_by sym.Equal = (λ t. compare.Equal) <$> take_symbol
-compare_by sym.NotEqual = (λ t. compare.NotEqual) <$> take_symbol
-compare_by sym.In = (λ t. compare.In) <$> take_symbol
+compare_by sym.Less = (λ t. compare.Less) <$> expect sym.Less
+compare_by sym.Greater = (λ t. compare.Greater) <$> expect sym.Greater
+compare_by sym.AtMost = (λ t. compare.AtMost) <$> expect sym.AtMost
+compare_by sym.AtLeast = (λ t. compare.AtLeast) <$> expect sym.AtLeast
+compare_by sym.Equal = (λ t. compare.Equal) <$> expect sym.Equal
+compare_by sym.NotEqual = (λ t. compare.NotEqual) <$> expect sym.NotEqual
+compare_by sym.In = (λ t. compare.In) <$> expect sym.In
 compare_by _ = not_in
 
 unfoldable pub compare_op : Parser CompareOp
@@ -78,7 +74,7 @@ unfoldable pub compared : Parser (CompareOp × Tree)
 compared = compare_op >>= (λ o. (λ y. (o, y)) <$> full Part.BitOr)
 
 unfoldable pub comparison : Parser Tree
-comparison = full Part.BitOr >>= (λ x i. by (compares (peek i)) (compared >>= (λ q. pure (tree.Compare (place_of x) q.0 x q.1))) (pure x) i)
+comparison = full Part.BitOr >>= (λ x i. cond (compares (peek i)) ((compared >>= (λ q. pure (tree.Compare (place_of x) q.0 x q.1))) i) (took x i))
 
 -- an operator and its second operand
 unfoldable pub operated : Level → Parser Tree
@@ -119,7 +115,7 @@ unfoldable pub enclosed : Sym → Parser (List Tree × Bool)
 enclosed k = any_exprs >>= (λ q. (λ z. q) <$> expect k)
 
 abbrev pub keyed_by : Word → Parser Arg
-keyed_by w = on sym.Assign (take_symbol >>= (λ t. (λ y. arg.Keyed w y) <$> full Part.Expr)) (pure (arg.Plain (tree.Name w)))
+keyed_by w = on sym.Assign (expect sym.Assign >>= (λ t. (λ y. arg.Keyed w y) <$> full Part.Expr)) (pure (arg.Plain (tree.Name w)))
 
 unfoldable pub keyed : Word → Parser Arg
 keyed w = keyed_by w
@@ -159,7 +155,7 @@ unfoldable pub ended : Tree → List Tree → Parser Tree
 ended x xs = slice_end >>= (λ y. pure (tree.Slice (place_of x) x (head_of xs) y))
 
 unfoldable pub from_exprs : Tree → Parser Tree
-from_exprs x = exprs >>= (λ q i. by (single_in q.0 q.1 && same (peek i) sym.Colon) (ended x q.0) (pure (tree.Index (place_of x) x q.0 q.1)) i)
+from_exprs x = exprs >>= (λ q. either (fit_for (single_in q.0 q.1) sym.Colon) (ended x q.0) (pure (tree.Index (place_of x) x q.0 q.1)))
 
 unfoldable pub subscripted : Tree → Parser Tree
 subscripted x = on sym.Colon (from_start x) (from_exprs x)
@@ -200,21 +196,21 @@ unfoldable pub display : Parser Tree
 display = expect sym.LBracket >>= (λ t. (λ q. tree.Display t.place q.0 q.1) <$> enclosed sym.RBracket)
 
 unfoldable pub name : Parser Tree
-name = (λ t. tree.Name (word t)) <$> take_symbol
+name = (λ t. tree.Name (word t)) <$> expect sym.Name
 
 unfoldable pub number : Parser Tree
-number = (λ t. tree.Number (literal t)) <$> take_symbol
+number = (λ t. tree.Number (literal t)) <$> expect sym.Number
 
-unfoldable pub flag : Bool → Parser Tree
-flag b = (λ t. tree.Flag t.place b) <$> take_symbol
+unfoldable pub flag : Sym → Bool → Parser Tree
+flag k b = (λ t. tree.Flag t.place b) <$> expect k
 
 abbrev pub atom_by : Sym → Parser Tree
 atom_by sym.Name = name
 atom_by sym.Number = number
 atom_by sym.Str = text
 atom_by sym.Bytes = bytes
-atom_by sym.True = flag true
-atom_by sym.False = flag false
+atom_by sym.True = flag sym.True true
+atom_by sym.False = flag sym.False false
 atom_by sym.LParen = paren
 atom_by _ = display
 

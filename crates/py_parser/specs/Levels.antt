@@ -19,7 +19,7 @@ use Rattle.py_grammar.specs.Trees.{grouped}
 use Rattle.py_grammar.specs.Grammar.{is}
 use Rattle.py_parser.specs.declared.level.Level.{Level}
 use Rattle.py_parser.specs.declared.level.Level.TheVariants as level
-use Rattle.py_parser.specs.Flow.{full, run}
+use Rattle.py_grammar.specs.Flow.{full, run}
 
 abbrev pub rank : Level → ℕ
 rank level.Choice = 14

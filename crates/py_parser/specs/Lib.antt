@@ -1,7 +1,6 @@
 pub mod Answer
 pub mod Lexemes
 pub mod Reads
-pub mod Flow
 pub mod Levels
 pub mod Expressions
 pub mod Types

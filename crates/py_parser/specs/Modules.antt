@@ -27,15 +27,15 @@ use Rattle.py_grammar.specs.Parser.{Outcome, Parser, ◌>>=◌, ◌<$>◌, pure,
 use Rattle.py_grammar.specs.Trees.{word, literal}
 use Rattle.py_grammar.specs.Grammar.{imported as imported_rule}
 use Rattle.py_parser.specs.declared.signature.Signature.{Signature}
-use Rattle.py_parser.specs.Flow.{full, again, gather, listing}
-use Rattle.py_parser.specs.Expressions.{place_at, by, on, texts}
+use Rattle.py_grammar.specs.Flow.{full, again, gather, listing}
+use Rattle.py_parser.specs.Expressions.{place_at, on, texts}
 use Rattle.py_parser.specs.Types.{dotted}
 use Rattle.py_parser.specs.Statements.{block}
 
 -- ---- functions
 
 unfoldable pub note : Parser (Option TypeTree)
-note = on sym.Colon (take_symbol >>= (λ t. (λ a. Some a) <$> full Part.Annotation)) (pure None)
+note = on sym.Colon (expect sym.Colon >>= (λ t. (λ a. Some a) <$> full Part.Annotation)) (pure None)
 
 unfoldable pub param : Parser Param
 param = expect sym.Name >>= (λ n. (λ a. record { name = word n; annotation = a }) <$> note)
@@ -50,7 +50,7 @@ unfoldable pub in_parens : Parser (List Param × Bool)
 in_parens = expect sym.LParen >>= (λ t. any_params >>= (λ q. (λ z. q) <$> expect sym.RParen))
 
 unfoldable pub answered : Parser (Option TypeTree)
-answered = on sym.Arrow (take_symbol >>= (λ t. (λ a. Some a) <$> full Part.Annotation)) (pure None)
+answered = on sym.Arrow (expect sym.Arrow >>= (λ t. (λ a. Some a) <$> full Part.Annotation)) (pure None)
 
 unfoldable pub signature : Parser Signature
 signature = expect sym.Name >>= (λ n. in_parens >>= (λ q. answered >>= (λ r. (λ c. record { name = word n; params = q.0; comma = q.1; result = r }) <$> expect sym.Colon)))
@@ -106,7 +106,7 @@ class = expect sym.Class >>= (λ t. class_name >>= (λ h. (λ ms. record { place
 -- ---- imports and constants
 
 unfoldable pub known_as : Parser (Option Word)
-known_as = on sym.As (take_symbol >>= (λ t. (λ n. Some (word n)) <$> expect sym.Name)) (pure None)
+known_as = on sym.As (expect sym.As >>= (λ t. (λ n. Some (word n)) <$> expect sym.Name)) (pure None)
 
 unfoldable pub imported : Parser Import
 imported = expect sym.Name >>= (λ n. (λ k. record { name = word n; known_as = k }) <$> known_as)
@@ -139,7 +139,7 @@ unfoldable pub const_bytes : Parser ConstValue
 const_bytes = λ i. ((λ ls. const.Bytes (place_at i) ls) <$> texts sym.Bytes) i
 
 unfoldable pub const_number : Parser ConstValue
-const_number = (λ t. const.Number (literal t)) <$> take_symbol
+const_number = (λ t. const.Number (literal t)) <$> expect sym.Number
 
 unfoldable pub const_flag : Sym → Bool → Parser ConstValue
 const_flag k b = (λ t. const.Flag t.place b) <$> expect k

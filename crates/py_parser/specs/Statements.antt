@@ -21,9 +21,9 @@ use Rattle.py_grammar.specs.Rules.{Rule, one, part, ◌~◌, same, has}
 use Rattle.py_grammar.specs.Sets.{begins, simple_starters}
 use Rattle.py_grammar.specs.Parser.{Outcome, Parser, ◌>>=◌, ◌<$>◌, pure, peek, take_symbol, expect}
 use Rattle.py_grammar.specs.Trees.{word}
-use Rattle.py_parser.specs.Flow.{full, again, gather}
+use Rattle.py_grammar.specs.Flow.{full, again, gather}
 use Rattle.py_parser.specs.Levels.{when}
-use Rattle.py_parser.specs.Expressions.{by, on, on_expr, exprs_tree}
+use Rattle.py_parser.specs.Expressions.{on, on_expr, exprs_tree}
 
 -- the operator that a symbol is in an augmented assignment
 abbrev pub update : Sym → Option UpdateOp
@@ -49,25 +49,25 @@ abbrev pub returned_by : Place → Parser Simple
 returned_by p = on_expr ((λ e. simple.Return p (Some e)) <$> exprs_tree) (pure (simple.Return p None))
 
 unfoldable pub returned : Parser Simple
-returned = take_symbol >>= (λ t. returned_by t.place)
+returned = expect sym.Return >>= (λ t. returned_by t.place)
 
 unfoldable pub message : Parser (Option Tree)
-message = on sym.Comma (take_symbol >>= (λ t. (λ y. Some y) <$> full Part.Expr)) (pure None)
+message = on sym.Comma (expect sym.Comma >>= (λ t. (λ y. Some y) <$> full Part.Expr)) (pure None)
 
 unfoldable pub asserted : Parser Simple
-asserted = take_symbol >>= (λ t. full Part.Expr >>= (λ x. (λ y. simple.Assert t.place x y) <$> message))
+asserted = expect sym.Assert >>= (λ t. full Part.Expr >>= (λ x. (λ y. simple.Assert t.place x y) <$> message))
 
 unfoldable pub deleted : Parser Simple
-deleted = take_symbol >>= (λ t. (λ x. simple.Del t.place x) <$> full Part.Post)
+deleted = expect sym.Del >>= (λ t. (λ x. simple.Del t.place x) <$> full Part.Post)
 
 unfoldable pub values : Exprs → Parser Simple
-values e = take_symbol >>= (λ t. (λ v. simple.Assign e v) <$> exprs_tree)
+values e = expect sym.Assign >>= (λ t. (λ v. simple.Assign e v) <$> exprs_tree)
 
 unfoldable pub initial : Parser (Option Exprs)
-initial = on sym.Assign (take_symbol >>= (λ t. (λ v. Some v) <$> exprs_tree)) (pure None)
+initial = on sym.Assign (expect sym.Assign >>= (λ t. (λ v. Some v) <$> exprs_tree)) (pure None)
 
 unfoldable pub annotated : Exprs → Parser Simple
-annotated e = take_symbol >>= (λ t. full Part.Annotation >>= (λ a. (λ v. simple.Annotate e a v) <$> initial))
+annotated e = expect sym.Colon >>= (λ t. full Part.Annotation >>= (λ a. (λ v. simple.Annotate e a v) <$> initial))
 
 unfoldable pub updated : Exprs → UpdateOp → Parser Simple
 updated e o = take_symbol >>= (λ t. (λ x. simple.Update e o x) <$> full Part.Expr)
@@ -91,9 +91,9 @@ unfoldable pub valued : Parser Simple
 valued = exprs_tree >>= assigned
 
 abbrev pub simple_by : Sym → Parser Simple
-simple_by sym.Pass = (λ t. simple.Pass t.place) <$> take_symbol
-simple_by sym.Break = (λ t. simple.Break t.place) <$> take_symbol
-simple_by sym.Continue = (λ t. simple.Continue t.place) <$> take_symbol
+simple_by sym.Pass = (λ t. simple.Pass t.place) <$> expect sym.Pass
+simple_by sym.Break = (λ t. simple.Break t.place) <$> expect sym.Break
+simple_by sym.Continue = (λ t. simple.Continue t.place) <$> expect sym.Continue
 simple_by sym.Return = returned
 simple_by sym.Assert = asserted
 simple_by sym.Del = deleted
@@ -122,7 +122,7 @@ unfoldable pub indented : Parser Block
 indented = expect sym.Newline >>= (λ t. expect sym.Indent >>= (λ u. lines >>= (λ ss. (λ z. block.Lines ss) <$> expect sym.Dedent)))
 
 unfoldable pub block : Parser Block
-block = λ i. by (begins_simple (peek i)) ((λ s. block.Line s) <$> line) indented i
+block = λ i. cond (begins_simple (peek i)) (((λ s. block.Line s) <$> line) i) (indented i)
 
 unfoldable pub headed : Parser (Tree × Block)
 headed = full Part.Expr >>= (λ x. expect sym.Colon >>= (λ c. (λ b. (x, b)) <$> block))
@@ -137,7 +137,7 @@ unfoldable pub branches : List Branch → Parser (List Branch)
 branches bs = gather (λ q. branch_of q) (one sym.Elif ~ part Part.Expr ~ one sym.Colon ~ part Part.Block) bs
 
 unfoldable pub otherwise : Parser (Option Block)
-otherwise = on sym.Else (take_symbol >>= (λ t. expect sym.Colon >>= (λ c. (λ b. Some b) <$> block))) (pure None)
+otherwise = on sym.Else (expect sym.Else >>= (λ t. expect sym.Colon >>= (λ c. (λ b. Some b) <$> block))) (pure None)
 
 unfoldable pub if_stmt : Parser Stmt
 if_stmt = expect sym.If >>= (λ t. headed >>= (λ h. branches [] >>= (λ bs. (λ o. stmt.If t.place h.0 h.1 bs o) <$> otherwise)))
@@ -157,4 +157,4 @@ unfoldable pub compound : Parser Stmt
 compound = λ i. compound_by (peek i) i
 
 unfoldable pub stmt : Parser Stmt
-stmt = λ i. by (begins_simple (peek i)) ((λ s. stmt.Simple s) <$> line) compound i
+stmt = λ i. cond (begins_simple (peek i)) (((λ s. stmt.Simple s) <$> line) i) (compound i)

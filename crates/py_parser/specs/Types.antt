@@ -13,8 +13,8 @@ use Rattle.py_grammar.specs.Parts.{Part, Made}
 use Rattle.py_grammar.specs.Rules.{Rule, one, part, ◌~◌, same, has}
 use Rattle.py_grammar.specs.Parser.{Outcome, Parser, ◌>>=◌, ◌<$>◌, pure, peek, take_symbol, expect}
 use Rattle.py_grammar.specs.Trees.{word, literal}
-use Rattle.py_parser.specs.Flow.{full, listing, gather}
-use Rattle.py_parser.specs.Expressions.{place_at, by, on}
+use Rattle.py_grammar.specs.Flow.{full, listing, gather}
+use Rattle.py_parser.specs.Expressions.{place_at, on}
 
 unfoldable pub dotted : Parser (List Word)
 dotted = expect sym.Name >>= (λ t. gather (λ q. word q.1) (one sym.Dot ~ one sym.Name) (word t ∷ []))
@@ -29,7 +29,7 @@ unfoldable pub named_type : Parser TypeTree
 named_type = λ i. (dotted >>= (λ ws. on sym.LBracket (in_brackets >>= (λ q. pure (type_tree.Of (place_at i) ws q.0 q.1))) (pure (type_tree.Named (place_at i) ws)))) i
 
 unfoldable pub annotation : Parser TypeTree
-annotation = on sym.None ((λ t. type_tree.None t.place) <$> take_symbol) named_type
+annotation = on sym.None ((λ t. type_tree.None t.place) <$> expect sym.None) named_type
 
 unfoldable pub number_argument : Parser TypeArg
 number_argument = (λ t. type_arg.Number (literal t)) <$> expect sym.Number

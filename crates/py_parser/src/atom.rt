@@ -57,7 +57,7 @@ fn name(alloc: Global, tokens: &mut Cursor<'_>) -> Result<Tree, Stop>
     ensures reads { Reads (spec.name tokens.old) result tokens.new }
     ensures fewer { OnOk result (length tokens.new < length tokens.old) }
 {
-    let found = tokens.take()?;
+    let found = tokens.expect(Sym::Name)?;
     Ok(Tree::Name(word(alloc, &found)?))
 }
 
@@ -67,17 +67,17 @@ fn number(alloc: Global, tokens: &mut Cursor<'_>) -> Result<Tree, Stop>
     ensures reads { Reads (spec.number tokens.old) result tokens.new }
     ensures fewer { OnOk result (length tokens.new < length tokens.old) }
 {
-    let found = tokens.take()?;
+    let found = tokens.expect(Sym::Number)?;
     Ok(Tree::Number(literal(alloc, &found)?))
 }
 
 /// `True` or `False`.
 #[tactic(auto, unfolding(crate::specs::Expressions::flag))]
-fn flag(tokens: &mut Cursor<'_>, value: bool) -> Result<Tree, Stop>
-    ensures reads { Reads (spec.flag value tokens.old) result tokens.new }
+fn flag(tokens: &mut Cursor<'_>, sym: Sym, value: bool) -> Result<Tree, Stop>
+    ensures reads { Reads (spec.flag sym value tokens.old) result tokens.new }
     ensures fewer { OnOk result (length tokens.new < length tokens.old) }
 {
-    let found = tokens.take()?;
+    let found = tokens.expect(sym)?;
     Ok(Tree::Flag(found.place, value))
 }
 
@@ -171,8 +171,8 @@ impl<F: Fn(Global, &mut Cursor<'_>, Level) -> Result<Tree, Stop>> Grammar<F> {
             Sym::Number => number(self.alloc, tokens),
             Sym::Str => text(self.alloc, tokens),
             Sym::Bytes => bytes(self.alloc, tokens),
-            Sym::True => flag(tokens, true),
-            Sym::False => flag(tokens, false),
+            Sym::True => flag(tokens, Sym::True, true),
+            Sym::False => flag(tokens, Sym::False, false),
             Sym::LParen => self.paren(tokens),
             _ => self.display(tokens),
         }

@@ -105,7 +105,12 @@ fn boxed(alloc: Global, tree: Option<Tree>) -> Result<Option<Boxed<Tree>>, Memor
     }
 }
 
-pub fn slice(alloc: Global, base: Tree, start: Option<Tree>, end: Option<Tree>) -> Result<Tree, Memory>
+pub fn slice(
+    alloc: Global,
+    base: Tree,
+    start: Option<Tree>,
+    end: Option<Tree>,
+) -> Result<Tree, Memory>
     ensures { IfOk result (λ t. t ≡ tree.Slice (spec.place_of base) base start end) }
 {
     let place = place_of(&base);

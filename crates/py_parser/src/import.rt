@@ -101,7 +101,12 @@ fn names_in_parens(alloc: Global, tokens: &mut Cursor<'_>) -> Result<(List<Impor
 
 /// The names that an import brings in.
 #[tactic(auto, unfolding(crate::specs::Modules::names))]
-fn names(alloc: Global, tokens: &mut Cursor<'_>, place: Place, words: List<Word>) -> Result<Item, Stop>
+fn names(
+    alloc: Global,
+    tokens: &mut Cursor<'_>,
+    place: Place,
+    words: List<Word>,
+) -> Result<Item, Stop>
     ensures reads { Reads (spec.names place words tokens.old) result tokens.new }
     ensures fewer { OnOk result (length tokens.new < length tokens.old) }
 {

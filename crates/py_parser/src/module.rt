@@ -53,7 +53,7 @@ fn const_number(alloc: Global, tokens: &mut Cursor<'_>) -> Result<ConstValue, St
     ensures reads { Reads (spec.const_number tokens.old) result tokens.new }
     ensures fewer { OnOk result (length tokens.new < length tokens.old) }
 {
-    let found = tokens.take()?;
+    let found = tokens.expect(Sym::Number)?;
     Ok(ConstValue::Number(literal(alloc, &found)?))
 }
 

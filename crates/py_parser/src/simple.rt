@@ -2,7 +2,7 @@
 
 ghost use Rattle.std.specs.Prelude.{◌≡◌, ◌≤◌, ◌<◌, ◌+◌, length, OnOk};
 ghost use Rattle.py_grammar.specs.Parts.{Part};
-ghost use Rattle.py_parser.specs.Flow.{full};
+ghost use Rattle.py_grammar.specs.Flow.{full};
 ghost use Rattle.py_parser.specs.Expressions.{exprs_tree};
 ghost use Rattle.py_parser.specs.Statements as spec;
 ghost use Rattle.py_parser.specs.Reads.{Reads};
@@ -65,7 +65,7 @@ fn returned(alloc: Global, tokens: &mut Cursor<'_>) -> Result<Simple, Stop>
     ensures reads { Reads (spec.returned tokens.old) result tokens.new }
     ensures fewer { OnOk result (length tokens.new < length tokens.old) }
 {
-    let word = tokens.take()?;
+    let word = tokens.expect(Sym::Return)?;
     if begins(tokens.peek()) {
         Ok(Simple::Return(word.place, Some(exprs(alloc, tokens)?)))
     } else {
@@ -92,7 +92,7 @@ fn asserted(alloc: Global, tokens: &mut Cursor<'_>) -> Result<Simple, Stop>
     ensures reads { Reads (spec.asserted tokens.old) result tokens.new }
     ensures fewer { OnOk result (length tokens.new < length tokens.old) }
 {
-    let word = tokens.take()?;
+    let word = tokens.expect(Sym::Assert)?;
     let test = expr(alloc, tokens)?;
     let said = message(alloc, tokens)?;
     Ok(Simple::Assert(word.place, test, said))
@@ -104,7 +104,7 @@ fn deleted(alloc: Global, tokens: &mut Cursor<'_>) -> Result<Simple, Stop>
     ensures reads { Reads (spec.deleted tokens.old) result tokens.new }
     ensures fewer { OnOk result (length tokens.new < length tokens.old) }
 {
-    let word = tokens.take()?;
+    let word = tokens.expect(Sym::Del)?;
     let target = tree(alloc, tokens, Level::Post)?;
     Ok(Simple::Del(word.place, target))
 }
@@ -115,7 +115,7 @@ fn values(alloc: Global, tokens: &mut Cursor<'_>, targets: Exprs) -> Result<Simp
     ensures reads { Reads (spec.values targets tokens.old) result tokens.new }
     ensures fewer { OnOk result (length tokens.new < length tokens.old) }
 {
-    tokens.take()?;
+    tokens.expect(Sym::Assign)?;
     let values = exprs(alloc, tokens)?;
     Ok(Simple::Assign(targets, values))
 }
@@ -139,7 +139,7 @@ fn annotated(alloc: Global, tokens: &mut Cursor<'_>, targets: Exprs) -> Result<S
     ensures reads { Reads (spec.annotated targets tokens.old) result tokens.new }
     ensures fewer { OnOk result (length tokens.new < length tokens.old) }
 {
-    tokens.take()?;
+    tokens.expect(Sym::Colon)?;
     let note = annotation(alloc, tokens)?;
     let values = initial(alloc, tokens)?;
     Ok(Simple::Annotate(targets, note, values))
@@ -147,7 +147,12 @@ fn annotated(alloc: Global, tokens: &mut Cursor<'_>, targets: Exprs) -> Result<S
 
 /// An augmented assignment's operator and value (7.2.1).
 #[tactic(auto, unfolding(crate::specs::Statements::updated))]
-fn updated(alloc: Global, tokens: &mut Cursor<'_>, targets: Exprs, op: UpdateOp) -> Result<Simple, Stop>
+fn updated(
+    alloc: Global,
+    tokens: &mut Cursor<'_>,
+    targets: Exprs,
+    op: UpdateOp,
+) -> Result<Simple, Stop>
     ensures reads { Reads (spec.updated targets op tokens.old) result tokens.new }
     ensures fewer { OnOk result (length tokens.new < length tokens.old) }
 {

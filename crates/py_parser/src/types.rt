@@ -2,7 +2,7 @@
 
 ghost use Rattle.std.specs.Prelude.{◌≡◌, ◌≤◌, ◌<◌, ◌+◌, length, OnOk};
 ghost use Rattle.py_grammar.specs.Parts.{Part};
-ghost use Rattle.py_parser.specs.Flow.{full};
+ghost use Rattle.py_grammar.specs.Flow.{full};
 ghost use Rattle.py_parser.specs.Types as spec;
 ghost use Rattle.py_parser.specs.Nests.{NestsIn};
 ghost use Rattle.py_parser.specs.Reads.{Reads};
