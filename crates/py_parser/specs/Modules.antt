@@ -11,13 +11,13 @@ use Rattle.py_grammar.specs.declared.statement.Block.{Block}
 use Rattle.py_grammar.specs.declared.module.Param.{Param}
 use Rattle.py_grammar.specs.declared.module.Func.{Func}
 use Rattle.py_grammar.specs.declared.module.Member.{Member}
-use Rattle.py_grammar.specs.declared.module.Member.TheVariants as member
+use Rattle.py_grammar.specs.declared.module.Member.TheVariants as to_member
 use Rattle.py_grammar.specs.declared.module.Class.{Class}
 use Rattle.py_grammar.specs.declared.module.Import.{Import}
 use Rattle.py_grammar.specs.declared.module.Item.{Item}
-use Rattle.py_grammar.specs.declared.module.Item.TheVariants as item
+use Rattle.py_grammar.specs.declared.module.Item.TheVariants as to_item
 use Rattle.py_grammar.specs.declared.module.ConstValue.{ConstValue}
-use Rattle.py_grammar.specs.declared.module.ConstValue.TheVariants as const
+use Rattle.py_grammar.specs.declared.module.ConstValue.TheVariants as to_const
 use Rattle.py_grammar.specs.declared.module.Module.{Module}
 use Rattle.py_grammar.specs.Codes.{Code, Value}
 use Rattle.py_grammar.specs.Parts.{Part, Made}
@@ -70,19 +70,19 @@ func = λ i. (decorators [] >>= (λ ds. expect sym.Def >>= (λ d. signature >>= 
 -- ---- classes
 
 unfoldable pub field : Parser Member
-field = expect sym.Name >>= (λ n. expect sym.Colon >>= (λ c. full Part.Annotation >>= (λ a. (λ z. member.Field (word n) a) <$> expect sym.Newline)))
+field = expect sym.Name >>= (λ n. expect sym.Colon >>= (λ c. full Part.Annotation >>= (λ a. (λ z. to_member.Field (word n) a) <$> expect sym.Newline)))
 
 unfoldable pub pass : Parser Member
-pass = expect sym.Pass >>= (λ t. (λ z. member.Pass t.place) <$> expect sym.Newline)
+pass = expect sym.Pass >>= (λ t. (λ z. to_member.Pass t.place) <$> expect sym.Newline)
 
 unfoldable pub member_text : Parser Member
-member_text = λ i. (texts sym.Str >>= (λ ls. (λ z. member.Text (place_at i) ls) <$> expect sym.Newline)) i
+member_text = λ i. (texts sym.Str >>= (λ ls. (λ z. to_member.Text (place_at i) ls) <$> expect sym.Newline)) i
 
 abbrev pub member_by : Sym → Parser Member
 member_by sym.Str = member_text
 member_by sym.Pass = pass
 member_by sym.Name = field
-member_by _ = (λ f. member.Func f) <$> func
+member_by _ = (λ f. to_member.Func f) <$> func
 
 unfoldable pub member : Parser Member
 member = λ i. member_by (peek i) i
@@ -112,7 +112,7 @@ unfoldable pub imported : Parser Import
 imported = expect sym.Name >>= (λ n. (λ k. record { name = word n; known_as = k }) <$> known_as)
 
 unfoldable pub whole_import : Parser Item
-whole_import = expect sym.Import >>= (λ t. dotted >>= (λ ws. known_as >>= (λ k. (λ z. item.Import t.place ws k) <$> expect sym.Newline)))
+whole_import = expect sym.Import >>= (λ t. dotted >>= (λ ws. known_as >>= (λ k. (λ z. to_item.Import t.place ws k) <$> expect sym.Newline)))
 
 unfoldable pub name_list : Parser (List Import)
 name_list = imported >>= (λ n. gather (λ q. q.1) (one sym.Comma ~ imported_rule) (n ∷ []))
@@ -124,7 +124,7 @@ unfoldable pub names_in_parens : Parser (List Import × Bool)
 names_in_parens = expect sym.LParen >>= (λ t. names_listed >>= (λ q. (λ z. q) <$> expect sym.RParen))
 
 unfoldable pub names : Place → List Word → Parser Item
-names p ws = on sym.Name ((λ ns. item.From p ws ns) <$> name_list) ((λ q. item.FromParen p ws q.0 q.1) <$> names_in_parens)
+names p ws = on sym.Name ((λ ns. to_item.From p ws ns) <$> name_list) ((λ q. to_item.FromParen p ws q.0 q.1) <$> names_in_parens)
 
 unfoldable pub from_import : Parser Item
 from_import = expect sym.From >>= (λ t. dotted >>= (λ ws. expect sym.Import >>= (λ u. names t.place ws >>= (λ x. (λ z. x) <$> expect sym.Newline))))
@@ -133,16 +133,16 @@ unfoldable pub import : Parser Item
 import = on sym.Import whole_import from_import
 
 unfoldable pub const_text : Parser ConstValue
-const_text = λ i. ((λ ls. const.Text (place_at i) ls) <$> texts sym.Str) i
+const_text = λ i. ((λ ls. to_const.Text (place_at i) ls) <$> texts sym.Str) i
 
 unfoldable pub const_bytes : Parser ConstValue
-const_bytes = λ i. ((λ ls. const.Bytes (place_at i) ls) <$> texts sym.Bytes) i
+const_bytes = λ i. ((λ ls. to_const.Bytes (place_at i) ls) <$> texts sym.Bytes) i
 
 unfoldable pub const_number : Parser ConstValue
-const_number = (λ t. const.Number (literal t)) <$> expect sym.Number
+const_number = (λ t. to_const.Number (literal t)) <$> expect sym.Number
 
 unfoldable pub const_flag : Sym → Bool → Parser ConstValue
-const_flag k b = (λ t. const.Flag t.place b) <$> expect k
+const_flag k b = (λ t. to_const.Flag t.place b) <$> expect k
 
 abbrev pub constant_by : Sym → Parser ConstValue
 constant_by sym.Number = const_number
@@ -155,21 +155,21 @@ unfoldable pub constant : Parser ConstValue
 constant = λ i. constant_by (peek i) i
 
 unfoldable pub definition : Parser Item
-definition = expect sym.Name >>= (λ n. expect sym.Assign >>= (λ t. constant >>= (λ v. (λ z. item.Const (word n) v) <$> expect sym.Newline)))
+definition = expect sym.Name >>= (λ n. expect sym.Assign >>= (λ t. constant >>= (λ v. (λ z. to_item.Const (word n) v) <$> expect sym.Newline)))
 
 -- ---- modules
 
 unfoldable pub item_text : Parser Item
-item_text = λ i. (texts sym.Str >>= (λ ls. (λ z. item.Text (place_at i) ls) <$> expect sym.Newline)) i
+item_text = λ i. (texts sym.Str >>= (λ ls. (λ z. to_item.Text (place_at i) ls) <$> expect sym.Newline)) i
 
 abbrev pub item_by : Sym → Parser Item
 item_by sym.Str = item_text
 item_by sym.Import = import
 item_by sym.From = import
 item_by sym.Name = definition
-item_by sym.At = (λ f. item.Func f) <$> func
-item_by sym.Def = (λ f. item.Func f) <$> func
-item_by _ = (λ c. item.Class c) <$> class
+item_by sym.At = (λ f. to_item.Func f) <$> func
+item_by sym.Def = (λ f. to_item.Func f) <$> func
+item_by _ = (λ c. to_item.Class c) <$> class
 
 unfoldable pub item : Parser Item
 item = λ i. item_by (peek i) i

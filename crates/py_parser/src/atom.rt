@@ -83,7 +83,7 @@ fn flag(tokens: &mut Cursor<'_>, sym: Sym, value: bool) -> Result<Tree, Stop>
 
 impl<F: Fn(Global, &mut Cursor<'_>, Level) -> Result<Tree, Stop>> Grammar<F> {
     /// Expressions with commas between, and whether one stands behind the last (6.15).
-    #[tactic(auto, unfolding(crate::specs::Expressions::exprs))]
+    #[tactic(auto, using(crate::proofs::Lists::exprs_are), unfolding(crate::specs::Expressions::exprs))]
     pub fn exprs(&self, tokens: &mut Cursor<'_>) -> Result<(List<Tree>, bool), Stop>
         requires nests { Nests self.now.left self.now.level (F.pre self.now.tree) (F.post self.now.tree) }
         requires room { length tokens.old < self.now.left }

@@ -73,7 +73,7 @@ fn member(alloc: Global, tokens: &mut Cursor<'_>) -> Result<Member, Stop>
 }
 
 /// One member or more.
-#[tactic(auto, unfolding(crate::specs::Modules::members))]
+#[tactic(auto, using(crate::proofs::ModuleWords::members_are), unfolding(crate::specs::Modules::members))]
 fn members(alloc: Global, tokens: &mut Cursor<'_>) -> Result<List<Member>, Stop>
     ensures reads { Reads (spec.members tokens.old) result tokens.new }
     ensures fewer { OnOk result (length tokens.new < length tokens.old) }

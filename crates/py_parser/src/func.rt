@@ -69,7 +69,7 @@ fn param(alloc: Global, tokens: &mut Cursor<'_>) -> Result<Param, Stop>
 }
 
 /// Parameters with commas between, and whether one stands behind the last.
-#[tactic(auto, unfolding(crate::specs::Modules::params))]
+#[tactic(auto, using(crate::proofs::ModuleWords::params_are), unfolding(crate::specs::Modules::params))]
 fn params(alloc: Global, tokens: &mut Cursor<'_>) -> Result<(List<Param>, bool), Stop>
     ensures reads { Reads (spec.params tokens.old) result tokens.new }
     ensures fewer { OnOk result (length tokens.new < length tokens.old) }
@@ -158,6 +158,7 @@ fn decorator(alloc: Global, tokens: &mut Cursor<'_>) -> Result<Tree, Stop>
 }
 
 /// The decorators of a function.
+#[tactic(auto, using(crate::proofs::ModuleWords::decorators_are))]
 fn decorators(alloc: Global, tokens: &mut Cursor<'_>) -> Result<List<Tree>, Stop>
     ensures reads { Reads (spec.decorators [] tokens.old) result tokens.new }
     ensures fewer { OnOk result (length tokens.new ≤ length tokens.old) }

@@ -51,7 +51,7 @@ fn whole_import(alloc: Global, tokens: &mut Cursor<'_>) -> Result<Item, Stop>
 }
 
 /// Names with commas between.
-#[tactic(auto, unfolding(crate::specs::Modules::name_list))]
+#[tactic(auto, using(crate::proofs::ModuleWords::names_are), unfolding(crate::specs::Modules::name_list))]
 fn name_list(alloc: Global, tokens: &mut Cursor<'_>) -> Result<List<Import>, Stop>
     ensures reads { Reads (spec.name_list tokens.old) result tokens.new }
     ensures fewer { OnOk result (length tokens.new < length tokens.old) }
@@ -68,7 +68,7 @@ fn name_list(alloc: Global, tokens: &mut Cursor<'_>) -> Result<List<Import>, Sto
 }
 
 /// Names with commas between, and whether one stands behind the last.
-#[tactic(auto, unfolding(crate::specs::Modules::names_listed))]
+#[tactic(auto, using(crate::proofs::ModuleWords::names_listed_are), unfolding(crate::specs::Modules::names_listed))]
 fn names_listed(alloc: Global, tokens: &mut Cursor<'_>) -> Result<(List<Import>, bool), Stop>
     ensures reads { Reads (spec.names_listed tokens.old) result tokens.new }
     ensures fewer { OnOk result (length tokens.new < length tokens.old) }

@@ -124,6 +124,7 @@ fn item(alloc: Global, tokens: &mut Cursor<'_>) -> Result<Item, Stop>
 }
 
 /// All that stands in a module.
+#[tactic(auto, using(crate::proofs::ModuleWords::items_are))]
 fn items(alloc: Global, tokens: &mut Cursor<'_>) -> Result<List<Item>, Stop>
     ensures reads { Reads (spec.items [] tokens.old) result tokens.new }
 {

@@ -158,7 +158,7 @@ impl<F: Fn(Global, &mut Cursor<'_>, Level) -> Result<Tree, Stop>> Grammar<F> {
     }
 
     /// An argument (6.3.4).
-    #[tactic(auto, using(crate::proofs::Names::as_name_is), unfolding(crate::specs::Expressions::argument))]
+    #[tactic(auto, using(crate::proofs::Names::as_name_is, crate::proofs::Names::no_name), unfolding(crate::specs::Expressions::argument))]
     fn argument(&self, tokens: &mut Cursor<'_>) -> Result<Arg, Stop>
         requires nests { Nests self.now.left self.now.level (F.pre self.now.tree) (F.post self.now.tree) }
         requires room { length tokens.old < self.now.left }
@@ -172,7 +172,7 @@ impl<F: Fn(Global, &mut Cursor<'_>, Level) -> Result<Tree, Stop>> Grammar<F> {
     }
 
     /// Arguments with commas between, and whether one stands behind the last.
-    #[tactic(auto, unfolding(crate::specs::Expressions::arguments))]
+    #[tactic(auto, using(crate::proofs::TypeWords::arguments_are), unfolding(crate::specs::Expressions::arguments))]
     fn arguments(&self, tokens: &mut Cursor<'_>) -> Result<(List<Arg>, bool), Stop>
         requires nests { Nests self.now.left self.now.level (F.pre self.now.tree) (F.post self.now.tree) }
         requires room { length tokens.old < self.now.left }
@@ -250,7 +250,7 @@ impl<F: Fn(Global, &mut Cursor<'_>, Level) -> Result<Tree, Stop>> Grammar<F> {
     }
 
     /// An atom, and what stands behind it (6.3).
-    #[tactic(auto, using(crate::proofs::Suffixes::suffixes_is), unfolding(crate::specs::Expressions::post))]
+    #[tactic(auto, using(crate::proofs::Words::suffixes_is), unfolding(crate::specs::Expressions::post))]
     pub fn post(&self, tokens: &mut Cursor<'_>) -> Result<Tree, Stop>
         requires nests { Nests self.now.left self.now.level (F.pre self.now.tree) (F.post self.now.tree) }
         requires room { length tokens.old ≤ self.now.left }

@@ -70,7 +70,7 @@ impl<F: Fn(Global, &mut Cursor<'_>) -> Result<Stmt, Stop>> Statements<F> {
     }
 
     /// One statement or more.
-    #[tactic(auto, unfolding(crate::specs::Statements::lines))]
+    #[tactic(auto, using(crate::proofs::StatementWords::lines_are), unfolding(crate::specs::Statements::lines))]
     fn lines(&self, tokens: &mut Cursor<'_>) -> Result<List<Stmt>, Stop>
         requires nests { NestsIn (full Part.Stmt) self.now.left (F.pre self.now.stmt) (F.post self.now.stmt) }
         requires room { length tokens.old < self.now.left }
@@ -149,6 +149,7 @@ impl<F: Fn(Global, &mut Cursor<'_>) -> Result<Stmt, Stop>> Statements<F> {
     }
 
     /// The branches of `elif`.
+    #[tactic(auto, using(crate::proofs::StatementWords::branches_are))]
     fn branches(&self, tokens: &mut Cursor<'_>) -> Result<List<Branch>, Stop>
         requires nests { NestsIn (full Part.Stmt) self.now.left (F.pre self.now.stmt) (F.post self.now.stmt) }
         requires room { length tokens.old < self.now.left }
@@ -179,6 +180,19 @@ impl<F: Fn(Global, &mut Cursor<'_>) -> Result<Stmt, Stop>> Statements<F> {
         Ok(Some(self.block(tokens)?))
     }
 
+    /// The branches of `elif`, and the block of `else` or none.
+    #[tactic(auto, unfolding(crate::specs::Statements::others))]
+    fn others(&self, tokens: &mut Cursor<'_>) -> Result<(List<Branch>, Option<Block>), Stop>
+        requires nests { NestsIn (full Part.Stmt) self.now.left (F.pre self.now.stmt) (F.post self.now.stmt) }
+        requires room { length tokens.old < self.now.left }
+        ensures reads { Reads (spec.others tokens.old) result tokens.new }
+        ensures fewer { OnOk result (length tokens.new ≤ length tokens.old) }
+    {
+        let branches = self.branches(tokens)?;
+        let otherwise = self.otherwise(tokens)?;
+        Ok((branches, otherwise))
+    }
+
     /// `if` (8.1).
     #[tactic(auto, unfolding(crate::specs::Statements::if_stmt))]
     fn if_stmt(&self, tokens: &mut Cursor<'_>) -> Result<Stmt, Stop>
@@ -189,8 +203,7 @@ impl<F: Fn(Global, &mut Cursor<'_>) -> Result<Stmt, Stop>> Statements<F> {
     {
         let word = tokens.expect(Sym::If)?;
         let (test, block) = self.headed(tokens)?;
-        let branches = self.branches(tokens)?;
-        let otherwise = self.otherwise(tokens)?;
+        let (branches, otherwise) = self.others(tokens)?;
         Ok(Stmt::If(word.place, test, block, branches, otherwise))
     }
 
@@ -254,6 +267,7 @@ impl<F: Fn(Global, &mut Cursor<'_>) -> Result<Stmt, Stop>> Statements<F> {
 }
 
 /// A statement (chapters 7 and 8).
+#[tactic(auto, using(crate::proofs::StatementWords::stmt_is))]
 pub fn stmt(alloc: Global, tokens: &mut Cursor<'_>) -> Result<Stmt, Stop>
     ensures reads { Reads (full Part.Stmt tokens.old) result tokens.new }
     ensures fewer { OnOk result (length tokens.new < length tokens.old) }

@@ -30,7 +30,7 @@ fn begins_argument(sym: Sym) -> bool
 }
 
 /// Names with points between.
-#[tactic(auto, unfolding(crate::specs::Types::dotted))]
+#[tactic(auto, using(crate::proofs::TypeWords::words_are), unfolding(crate::specs::Types::dotted))]
 pub fn dotted(alloc: Global, tokens: &mut Cursor<'_>) -> Result<List<Word>, Stop>
     ensures reads { Reads (spec.dotted tokens.old) result tokens.new }
     ensures fewer { OnOk result (length tokens.new < length tokens.old) }
@@ -82,7 +82,7 @@ impl<F: Fn(Global, &mut Cursor<'_>) -> Result<TypeTree, Stop>> Types<F> {
     }
 
     /// Arguments with commas between, and whether one stands behind the last.
-    #[tactic(auto, unfolding(crate::specs::Types::type_arguments))]
+    #[tactic(auto, using(crate::proofs::TypeWords::type_arguments_are), unfolding(crate::specs::Types::type_arguments))]
     fn arguments(&self, tokens: &mut Cursor<'_>) -> Result<(List<TypeArg>, bool), Stop>
         requires nests { NestsIn (full Part.Annotation) self.now.left (F.pre self.now.annotation) (F.post self.now.annotation) }
         requires room { length tokens.old < self.now.left }
@@ -151,6 +151,7 @@ impl<F: Fn(Global, &mut Cursor<'_>) -> Result<TypeTree, Stop>> Types<F> {
 }
 
 /// A type (Python reference 8.7).
+#[tactic(auto, using(crate::proofs::TypeWords::annotation_is))]
 pub fn annotation(alloc: Global, tokens: &mut Cursor<'_>) -> Result<TypeTree, Stop>
     ensures reads { Reads (full Part.Annotation tokens.old) result tokens.new }
     ensures fewer { OnOk result (length tokens.new < length tokens.old) }
