@@ -15,7 +15,7 @@ use std::alloc::Global;
 
 /// The parts of a type, where so many symbols are left.
 #[derive(Clone, Copy)]
-struct Types<F> {
+pub struct Types<F> {
     alloc: Global,
     left: usize,
     annotation: F,
