@@ -1,17 +1,16 @@
 -- The parser of a rule takes all that the rule derives.
-use Rattle.std.proofs.Common.{◌≡◌, ℕ, zero, suc, ◌+◌, ◌≤◌, ◌<◌, Bool, true, false, cond, not, ◌||◌, ◌&&◌, List, [], ◌∷◌, ◌++◌, length, Option, Some, None, refl, sym as flip, ◌∙◌, ap, subst, arith, append_assoc, append-nil, length-append}
+use Rattle.std.proofs.Common.{◌≡◌, ℕ, zero, suc, ◌+◌, ◌≤◌, Bool, true, false, cond, not, ◌||◌, ◌&&◌, List, [], ◌∷◌, ◌++◌, length, Some, None, refl, sym as flip, ◌∙◌, ap, arith, append_assoc, length-append}
 use Rattle.py_grammar.specs.declared.symbol.Sym.{Sym}
 use Rattle.py_grammar.specs.declared.symbol.Sym.TheVariants as sym
 use Rattle.py_grammar.specs.declared.symbol.Symbol.{Symbol}
 use Rattle.py_grammar.specs.Codes.{Code, Value}
-use Rattle.py_grammar.specs.Parts.{Part, Made}
-use Rattle.py_grammar.specs.Rules.{Rule, one, part, ◌~◌, ◌∣◌, maybe, many, listed, before, ◌⇒◌, same, has, within, apart}
+use Rattle.py_grammar.specs.Parts.{Part}
+use Rattle.py_grammar.specs.Rules.{Rule, part, ◌~◌, ◌∣◌, maybe, many, listed, before, ◌⇒◌, same, has, apart}
 use Rattle.py_grammar.specs.Sets.{begins, goes_on, null, first, on, is_plain}
-use Rattle.py_grammar.specs.Grammar.{rule}
 use Rattle.py_grammar.specs.Ahead.{ahead}
 use Rattle.py_grammar.specs.Derives.{Derives, DerivesMany, DerivesListed, a_symbol, a_part, in_turn, the_first, the_second, absent, present, repeated, in_a_list, alone, with_more, made_of, none_left, one_more, the_last, last_comma, more_listed}
-use Rattle.py_grammar.specs.Parser.{Outcome, took, stuck, spent, Parser, and_then, ◌>>=◌, pure, ◌<$>◌, first_of, sym_of, peek, take_symbol, expect, either, turns, commas, items, fit_for, Parsers, parse, parsers}
-use Rattle.py_grammar.proofs.Outcomes.{same_eq, eq_same}
+use Rattle.py_grammar.specs.Parser.{took, stuck, Parser, and_then, ◌>>=◌, pure, ◌<$>◌, peek, expect, either, turns, commas, items, fit_for, parse, parsers}
+use Rattle.py_grammar.proofs.Outcomes.{eq_same}
 use Rattle.py_grammar.proofs.Sets.{plain, not_null, begun, gone, or_left, or_right, or_true, and_left, and_right, not_true, no_both, has_left, has_right, not_left, not_right, has_within, not_within, not_apart}
 
 -- ---- what a rule derives begins with one of its kinds, or is nothing
@@ -64,17 +63,17 @@ more_symbols r u v b = (omega (arith, length-append u v, b.0), λ i. peek_split 
 -- ---- what a plain rule is made of
 
 module _ {A B : Code} (r : Rule A) (s : Rule B) where
-  plain_pair : is_plain (r ~ s) ≡ true → (apart (on r) (first s) ≡ true) × (is_plain r ≡ true) × (is_plain s ≡ true)
+  pub plain_pair : is_plain (r ~ s) ≡ true → (apart (on r) (first s) ≡ true) × (is_plain r ≡ true) × (is_plain s ≡ true)
   plain_pair e = let b = and_right (apart (on r) (first s)) (is_plain r && is_plain s) e in (and_left (apart (on r) (first s)) (is_plain r && is_plain s) e, and_left (is_plain r) (is_plain s) b, and_right (is_plain r) (is_plain s) b)
 
-  plain_before : (fit : Value A → Bool) (k : Sym) → is_plain (before fit r k s) ≡ true → (has k (on r) ≡ false) × (null r ≡ false) × (is_plain r ≡ true) × (is_plain s ≡ true)
+  pub plain_before : (fit : Value A → Bool) (k : Sym) → is_plain (before fit r k s) ≡ true → (has k (on r) ≡ false) × (null r ≡ false) × (is_plain r ≡ true) × (is_plain s ≡ true)
   plain_before fit k e =
       let b = and_right (not (has k (on r))) (not (null r) && (is_plain r && is_plain s)) e in
       let c = and_right (not (null r)) (is_plain r && is_plain s) b in
       (not_true (has k (on r)) (and_left (not (has k (on r))) (not (null r) && (is_plain r && is_plain s)) e), not_true (null r) (and_left (not (null r)) (is_plain r && is_plain s) b), and_left (is_plain r) (is_plain s) c, and_right (is_plain r) (is_plain s) c)
 
 module _ {A : Code} (r s : Rule A) where
-  plain_either : is_plain (r ∣ s) ≡ true → (apart (first r) (first s) ≡ true) × (null r ≡ false) × (null s ≡ false) × (is_plain r ≡ true) × (is_plain s ≡ true)
+  pub plain_either : is_plain (r ∣ s) ≡ true → (apart (first r) (first s) ≡ true) × (null r ≡ false) × (null s ≡ false) × (is_plain r ≡ true) × (is_plain s ≡ true)
   plain_either e =
       let b = and_right (apart (first r) (first s)) (not (null r) && (not (null s) && (is_plain r && is_plain s))) e in
       let c = and_right (not (null r)) (not (null s) && (is_plain r && is_plain s)) b in
@@ -82,15 +81,15 @@ module _ {A : Code} (r s : Rule A) where
       (and_left (apart (first r) (first s)) (not (null r) && (not (null s) && (is_plain r && is_plain s))) e, not_true (null r) (and_left (not (null r)) (not (null s) && (is_plain r && is_plain s)) b), not_true (null s) (and_left (not (null s)) (is_plain r && is_plain s) c), and_left (is_plain r) (is_plain s) d, and_right (is_plain r) (is_plain s) d)
 
 module _ {A : Code} (r : Rule A) where
-  plain_maybe : is_plain (maybe r) ≡ true → (null r ≡ false) × (is_plain r ≡ true)
+  pub plain_maybe : is_plain (maybe r) ≡ true → (null r ≡ false) × (is_plain r ≡ true)
   plain_maybe e = (not_true (null r) (and_left (not (null r)) (is_plain r) e), and_right (not (null r)) (is_plain r) e)
 
-  plain_many : is_plain (many r) ≡ true → (apart (on r) (first r) ≡ true) × (null r ≡ false) × (is_plain r ≡ true)
+  pub plain_many : is_plain (many r) ≡ true → (apart (on r) (first r) ≡ true) × (null r ≡ false) × (is_plain r ≡ true)
   plain_many e =
       let b = and_right (apart (on r) (first r)) (not (null r) && is_plain r) e in
       (and_left (apart (on r) (first r)) (not (null r) && is_plain r) e, not_true (null r) (and_left (not (null r)) (is_plain r) b), and_right (not (null r)) (is_plain r) b)
 
-  plain_listed : is_plain (listed r) ≡ true → (has sym.Comma (on r) ≡ false) × (null r ≡ false) × (is_plain r ≡ true)
+  pub plain_listed : is_plain (listed r) ≡ true → (has sym.Comma (on r) ≡ false) × (null r ≡ false) × (is_plain r ≡ true)
   plain_listed e =
       let b = and_right (not (has sym.Comma (on r))) (not (null r) && is_plain r) e in
       (not_true (has sym.Comma (on r)) (and_left (not (has sym.Comma (on r))) (not (null r) && is_plain r) e), not_true (null r) (and_left (not (null r)) (is_plain r) b), and_right (not (null r)) (is_plain r) b)

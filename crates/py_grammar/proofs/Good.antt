@@ -1,16 +1,16 @@
 -- The parser of a rule takes what the rule derives, and fails at a symbol with which nothing goes on.
-use Rattle.std.proofs.Common.{◌≡◌, ℕ, zero, suc, ◌+◌, ◌≤◌, ◌<◌, Bool, true, false, cond, List, [], ◌∷◌, ◌++◌, length, Option, Some, None, refl, sym as flip, ◌∙◌, ap, subst, arith, rules, append_assoc, append-nil, length-append}
+use Rattle.std.proofs.Common.{◌≡◌, ℕ, zero, suc, ◌≤◌, Bool, true, false, cond, List, [], ◌∷◌, ◌++◌, Option, Some, None, refl, sym as flip, subst, arith, append-nil}
 use Rattle.py_grammar.specs.declared.symbol.Sym.{Sym}
 use Rattle.py_grammar.specs.declared.symbol.Sym.TheVariants as sym
 use Rattle.py_grammar.specs.declared.symbol.Symbol.{Symbol}
 use Rattle.py_grammar.specs.Codes.{Code, Value}
 use Rattle.py_grammar.specs.Parts.{Part, Made}
-use Rattle.py_grammar.specs.Rules.{Rule, one, part, ◌~◌, ◌∣◌, maybe, many, listed, before, ◌⇒◌, same, has}
+use Rattle.py_grammar.specs.Rules.{Rule, one, part, ◌~◌, ◌∣◌, maybe, many, listed, before, ◌⇒◌, has}
 use Rattle.py_grammar.specs.Sets.{first}
 use Rattle.py_grammar.specs.Grammar.{rule}
 use Rattle.py_grammar.specs.Ahead.{ahead}
 use Rattle.py_grammar.specs.Derives.{Derives, DerivesMany, DerivesListed, a_symbol, a_part, in_turn, the_first, the_second, absent, present, repeated, in_a_list, alone, with_more, made_of, none_left, one_more, the_last, last_comma, more_listed}
-use Rattle.py_grammar.specs.Parser.{Outcome, took, stuck, spent, Parser, and_then, ◌>>=◌, pure, ◌<$>◌, first_of, sym_of, peek, expect, either, turns, commas, items, fit_for, Parsers, parse, parsers}
+use Rattle.py_grammar.specs.Parser.{Parser, ◌>>=◌, pure, ◌<$>◌, peek, expect, either, turns, commas, items, fit_for, Parsers, parse, parsers}
 use Rattle.py_grammar.proofs.Outcomes.{Judge, then_good, map_good, read_as, either_good, pure_good, One, one_symbol, expect_good, sample, sample_sym}
 
 -- something that a rule derives
@@ -96,7 +96,7 @@ sample_of (listed r) = let a = sample_of r in record { value = (a.value ∷ [], 
 sample_of (before fit r k s) = let a = sample_of r in record { value = (a.value, None); symbols = a.symbols; derived = alone fit r k s a.value a.symbols a.derived }
 sample_of (r ⇒ f) = let a = sample_of r in record { value = f a.value; symbols = a.symbols; derived = made_of r f a.value a.symbols a.derived }
 
-abbrev DListed : {A : Code} → Rule A → List (Value A) × Bool → List Symbol → Type 0
+abbrev pub DListed : {A : Code} → Rule A → List (Value A) × Bool → List Symbol → Type 0
 DListed r p u = DerivesListed ahead _ r p.0 p.1 u
 
 fit_only : (b : Bool) (k s : Sym) → has s (fit_for b k) ≡ true → b ≡ true
@@ -113,7 +113,7 @@ module _ {A : Code} (r : Rule A) (ks : List Sym) (p q : Parser (Value A)) (each 
       ts (p ts) (each ts)
   turns_by n n' others ts false = pure_good (DerivesMany ahead A r) ts [] (none_left r)
 
-  turns_good : (n n' : ℕ) → n ≤ n' → (ts : List Symbol) → Judge (DerivesMany ahead A r) (turns ks q n') ts (turns ks p n ts)
+  pub turns_good : (n n' : ℕ) → n ≤ n' → (ts : List Symbol) → Judge (DerivesMany ahead A r) (turns ks q n') ts (turns ks p n ts)
   unfolding turns
   turns_good zero n' le ts = tt
   turns_good (suc n) zero le ts = absurd (omega arith)
@@ -146,7 +146,7 @@ module _ {A : Code} (r : Rule A) (ks : List Sym) (p q : Parser (Value A)) (each 
         mid (expect sym.Comma mid) (expect_good sym.Comma mid)
     item_by mid false = pure_good (λ l v. DListed r l (u ++ v)) mid (x ∷ [], false) the_last_nil
 
-  items_good : (n n' : ℕ) → n ≤ n' → (ts : List Symbol) → Judge (DListed r) (items ks q n') ts (items ks p n ts)
+  pub items_good : (n n' : ℕ) → n ≤ n' → (ts : List Symbol) → Judge (DListed r) (items ks q n') ts (items ks p n ts)
   unfolding items
   items_good zero n' le ts = tt
   items_good (suc n) zero le ts = absurd (omega arith)
@@ -185,7 +185,7 @@ module _ (e e' : Parsers) (n n' : ℕ) (le : n ≤ n') (parts : (m : Part) (ts :
   is_symbol : (k : Sym) (t : Symbol) (u : List Symbol) → One k t u → Derives ahead Code.Symbol (one k) t u
   is_symbol k _ _ (one_symbol t h) = a_symbol t k h
 
-  rule_good : {A : Code} (r : Rule A) (ts : List Symbol) → Judge (Derives ahead A r) (parse e' n' r) ts (parse e n r ts)
+  pub rule_good : {A : Code} (r : Rule A) (ts : List Symbol) → Judge (Derives ahead A r) (parse e' n' r) ts (parse e n r ts)
   unfolding parse
   rule_good (one k) ts = read_as (One k) (Derives ahead Code.Symbol (one k)) (expect k) (is_symbol k) ts (expect k ts) (expect_good k ts)
   rule_good (part m) ts = parts m ts

@@ -1,5 +1,10 @@
 pub mod Outcomes
 pub mod Good
 pub mod Sets
+pub mod Shapes
+pub mod Printed
 pub mod Complete
+pub mod Steps
+pub mod Flow
+pub mod Ends
 pub mod Whole

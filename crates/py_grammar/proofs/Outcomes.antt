@@ -1,7 +1,6 @@
 -- Parsers of one symbol of look-ahead, whatever the grammar: what holds of the parts holds of the whole.
-use Rattle.std.proofs.Common.{◌≡◌, ℕ, zero, suc, ◌+◌, ◌≤◌, ◌<◌, Bool, true, false, cond, List, [], ◌∷◌, ◌++◌, length, Option, Some, None, refl, sym as flip, ◌∙◌, ap, subst, arith, rules, append_assoc, append-nil, length-append}
+use Rattle.std.proofs.Common.{◌≡◌, Bool, true, false, cond, List, [], ◌∷◌, ◌++◌, None, refl, sym as flip, ◌∙◌, ap, subst, rules, append_assoc}
 use denote.Enum.Bare.{same_true, true_same}
-use Rattle.puya_base.specs.declared.source.Place.{Place}
 use Rattle.py_grammar.specs.contracts.symbol.Sym.{the_type}
 use Rattle.py_grammar.specs.declared.symbol.Sym.{Sym}
 use Rattle.py_grammar.specs.declared.symbol.Symbol.{Symbol}

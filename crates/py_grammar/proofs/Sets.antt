@@ -1,19 +1,22 @@
 -- Sets of kinds, and what the table of rules keeps: one symbol of look-ahead suffices, and the lists of kinds hold.
-use Rattle.std.proofs.Common.{◌≡◌, ℕ, zero, suc, ◌+◌, ◌≤◌, ◌<◌, Bool, true, false, cond, not, ◌||◌, ◌&&◌, List, [], ◌∷◌, ◌++◌, length, refl, sym as flip, ◌∙◌, ap, subst, arith}
+use Rattle.std.proofs.Common.{◌≡◌, Bool, true, false, not, ◌||◌, ◌&&◌, List, [], ◌∷◌, ◌++◌, refl, sym as flip, ◌∙◌, ap, subst}
 use Rattle.py_grammar.specs.declared.symbol.Sym.{Sym}
-use Rattle.py_grammar.specs.declared.symbol.Symbol.{Symbol}
-use Rattle.py_grammar.specs.Codes.{Code, Value}
-use Rattle.py_grammar.specs.Parts.{Part, Made}
-use Rattle.py_grammar.specs.Rules.{Rule, same, has, within, apart}
+use Rattle.py_grammar.specs.Parts.{Part}
+use Rattle.py_grammar.specs.Rules.{is_printed, same, has, within, apart}
 use Rattle.py_grammar.specs.Sets.{begins, goes_on, null, first, on, is_plain}
 use Rattle.py_grammar.specs.Grammar.{rule}
 use Rattle.py_grammar.specs.Ahead.{ahead}
-use Rattle.py_grammar.proofs.Outcomes.{same_eq, eq_same}
+use Rattle.py_grammar.proofs.Outcomes.{same_eq}
 
 pub plain : (m : Part) → is_plain (ahead m) ≡ true
 unfolding rule ahead
 plain Part.Module = refl
 plain _ = refl
+
+pub printed : (m : Part) → is_printed (rule m) ≡ true
+unfolding rule
+printed Part.Module = refl
+printed _ = refl
 
 pub not_null : (m : Part) → null (ahead m) ≡ false
 unfolding rule ahead

@@ -1,13 +1,10 @@
 -- The grammar in a form in which the next symbol shows how to go on: behind an expression stands maybe a mark that shows what
 -- the expression is. Two parts differ from the printed form, and derive the same.
-use Rattle.std.specs.Prelude.{Bool, true, false, List, [], ◌∷◌, Option, Some, None}
-use Rattle.py_grammar.specs.declared.symbol.Sym.{Sym}
+use Rattle.std.specs.Prelude.{None}
 use Rattle.py_grammar.specs.declared.symbol.Sym.TheVariants as sym
-use Rattle.py_grammar.specs.declared.expression.Tree.{Tree}
 use Rattle.py_grammar.specs.declared.expression.Tree.TheVariants as tree
-use Rattle.py_grammar.specs.Codes.{Code, Value}
-use Rattle.py_grammar.specs.Parts.{Part, Made}
-use Rattle.py_grammar.specs.Rules.{Rule, Table, one, part, ◌~◌, ◌∣◌, maybe, before, ◌⇒◌}
+use Rattle.py_grammar.specs.Parts.{Part}
+use Rattle.py_grammar.specs.Rules.{Table, one, part, ◌~◌, ◌∣◌, maybe, before, ◌⇒◌}
 use Rattle.py_grammar.specs.Trees.{place_of, is_name, argument, is_single, subscript}
 use Rattle.py_grammar.specs.Grammar.{rule}
 

@@ -7,5 +7,7 @@ pub mod Grammar
 pub mod Ahead
 pub mod Derives
 pub mod Parser
+pub mod Flow
 pub mod Whole
+pub mod Rows
 pub mod Symbols

@@ -1,5 +1,5 @@
 -- A parser of one symbol of look-ahead for each rule.
-use Rattle.std.specs.Prelude.{◌≡◌, ℕ, zero, suc, Bool, true, false, cond, List, [], ◌∷◌, ◌++◌, Option, Some, None}
+use Rattle.std.specs.Prelude.{ℕ, zero, suc, Bool, true, false, cond, List, [], ◌∷◌, Option, Some, None}
 use Rattle.py_grammar.specs.declared.symbol.Sym.{Sym}
 use Rattle.py_grammar.specs.declared.symbol.Sym.TheVariants as sym
 use Rattle.py_grammar.specs.declared.symbol.Symbol.{Symbol}

@@ -1,5 +1,5 @@
 -- The parts of a source that have a rule of their own, and what each makes (Python reference, chapters 6 to 9).
-use Rattle.py_grammar.specs.Codes.{Code, Value}
+use Rattle.py_grammar.specs.Codes.{Code}
 
 pub data Part : Type 0 where
   Module : Part

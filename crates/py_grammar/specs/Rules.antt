@@ -1,10 +1,8 @@
 -- What the rule of a part is made of. A rule says which symbols stand one behind the other, and which value they make.
-use Rattle.std.specs.Prelude.{◌≡◌, ℕ, Bool, true, false, ◌||◌, ◌&&◌, not, cond, List, [], ◌∷◌, ◌++◌, Option}
+use Rattle.std.specs.Prelude.{Bool, true, false, ◌||◌, ◌&&◌, not, List, [], ◌∷◌}
 use denote.Enum.Bare.{sameb}
 use Rattle.py_grammar.specs.contracts.symbol.Sym.{the_type}
 use Rattle.py_grammar.specs.declared.symbol.Sym.{Sym}
-use Rattle.py_grammar.specs.declared.symbol.Sym.TheVariants as sym
-use Rattle.py_grammar.specs.declared.symbol.Symbol.{Symbol}
 use Rattle.py_grammar.specs.Codes.{Code, Value}
 use Rattle.py_grammar.specs.Parts.{Part, Made}
 
@@ -35,6 +33,18 @@ pub data Rule : Code → Type 0 where
 -- the rule of each part
 abbrev pub Table : Type 0
 Table = (n : Part) → Rule (Made n)
+
+-- the rule has the forms of the printed grammar alone
+abbrev pub is_printed : {A : Code} → Rule A → Bool
+is_printed (one k) = true
+is_printed (part n) = true
+is_printed (r ~ s) = is_printed r && is_printed s
+is_printed (r ∣ s) = is_printed r && is_printed s
+is_printed (maybe r) = is_printed r
+is_printed (many r) = is_printed r
+is_printed (listed r) = is_printed r
+is_printed (r ⇒ f) = is_printed r
+is_printed (before fit r k s) = false
 
 -- `==` on kinds
 abbrev pub same : Sym → Sym → Bool

@@ -1,10 +1,10 @@
 -- With which kinds of symbols a rule begins, and with which ones what it derived may go on.
-use Rattle.std.specs.Prelude.{◌≡◌, Bool, true, false, ◌||◌, ◌&&◌, not, cond, List, [], ◌∷◌, ◌++◌}
+use Rattle.std.specs.Prelude.{Bool, true, false, ◌||◌, ◌&&◌, not, cond, List, [], ◌∷◌, ◌++◌}
 use Rattle.py_grammar.specs.declared.symbol.Sym.{Sym}
 use Rattle.py_grammar.specs.declared.symbol.Sym.TheVariants as sym
 use Rattle.py_grammar.specs.Codes.{Code}
 use Rattle.py_grammar.specs.Parts.{Part}
-use Rattle.py_grammar.specs.Rules.{Rule, one, part, ◌~◌, ◌∣◌, maybe, many, listed, before, ◌⇒◌, has, within, apart}
+use Rattle.py_grammar.specs.Rules.{Rule, one, part, ◌~◌, ◌∣◌, maybe, many, listed, before, ◌⇒◌, has, apart}
 
 -- ---- of the parts
 

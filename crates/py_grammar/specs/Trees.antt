@@ -1,8 +1,6 @@
 -- The trees that the rules make of their symbols.
-use Rattle.std.specs.Prelude.{◌≡◌, ℕ, zero, suc, Bool, true, false, ◌||◌, ◌&&◌, cond, map, List, [], ◌∷◌, ◌++◌, Option, Some, None}
+use Rattle.std.specs.Prelude.{Bool, true, false, map, List, [], ◌∷◌, Option, Some, None}
 use Rattle.puya_base.specs.declared.source.Place.{Place}
-use Rattle.py_grammar.specs.declared.symbol.Sym.{Sym}
-use Rattle.py_grammar.specs.declared.symbol.Sym.TheVariants as sym
 use Rattle.py_grammar.specs.declared.symbol.Symbol.{Symbol}
 use Rattle.py_grammar.specs.declared.word.Word.{Word}
 use Rattle.py_grammar.specs.declared.word.Literal.{Literal}
@@ -16,30 +14,9 @@ use Rattle.py_grammar.specs.declared.expression.Arg.{Arg}
 use Rattle.py_grammar.specs.declared.expression.Arg.TheVariants as arg
 use Rattle.py_grammar.specs.declared.expression.Exprs.{Exprs}
 use Rattle.py_grammar.specs.declared.expression.BinaryOp.{BinaryOp}
-use Rattle.py_grammar.specs.declared.expression.BinaryOp.TheVariants as op
 use Rattle.py_grammar.specs.declared.expression.CompareOp.{CompareOp}
-use Rattle.py_grammar.specs.declared.expression.CompareOp.TheVariants as compare
-use Rattle.py_grammar.specs.declared.expression.UnaryOp.{UnaryOp}
-use Rattle.py_grammar.specs.declared.expression.UnaryOp.TheVariants as unary
-use Rattle.py_grammar.specs.declared.statement.UpdateOp.{UpdateOp}
-use Rattle.py_grammar.specs.declared.statement.UpdateOp.TheVariants as update
 use Rattle.py_grammar.specs.declared.statement.Simple.{Simple}
 use Rattle.py_grammar.specs.declared.statement.Simple.TheVariants as simple
-use Rattle.py_grammar.specs.declared.statement.Stmt.{Stmt}
-use Rattle.py_grammar.specs.declared.statement.Stmt.TheVariants as stmt
-use Rattle.py_grammar.specs.declared.statement.Branch.{Branch}
-use Rattle.py_grammar.specs.declared.statement.Block.{Block}
-use Rattle.py_grammar.specs.declared.statement.Block.TheVariants as block
-use Rattle.py_grammar.specs.declared.module.Param.{Param}
-use Rattle.py_grammar.specs.declared.module.Func.{Func}
-use Rattle.py_grammar.specs.declared.module.Member.{Member}
-use Rattle.py_grammar.specs.declared.module.Member.TheVariants as member
-use Rattle.py_grammar.specs.declared.module.Class.{Class}
-use Rattle.py_grammar.specs.declared.module.Import.{Import}
-use Rattle.py_grammar.specs.declared.module.Item.{Item}
-use Rattle.py_grammar.specs.declared.module.Item.TheVariants as item
-use Rattle.py_grammar.specs.declared.module.ConstValue.{ConstValue}
-use Rattle.py_grammar.specs.declared.module.ConstValue.TheVariants as const
 
 abbrev pub word : Symbol → Word
 word t = record { name = t.text; place = t.place }

@@ -1,0 +1,17 @@
+use Rattle.std.proofs.Common.{refl}
+use Rattle.py_grammar.specs.Grammar.{rule}
+use Rattle.py_grammar.specs.Ahead.{ahead}
+use Rattle.py_grammar.specs.Trees.{place_of, as_name}
+use Rattle.py_grammar.specs.Parser.{parse, parsers, turns, items}
+use Rattle.py_grammar.specs.Flow.{full, enough}
+use denote.Hole.Carrier.{out}
+use Rattle.py_grammar.specs.declared.expression.Tree.{out-Tree}
+use Rattle.py_grammar.proofs.rows.elif_belongs_to_its_if.Goals as goal
+
+pub returns-clause-inner : goal.returns-clause-inner
+unfolding full enough parsers parse turns items rule ahead place_of as_name out-Tree out
+returns-clause-inner c = refl
+
+pub returns-clause-outer : goal.returns-clause-outer
+unfolding full enough parsers parse turns items rule ahead place_of as_name out-Tree out
+returns-clause-outer c = refl
