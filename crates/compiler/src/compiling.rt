@@ -26,10 +26,10 @@ fn built_of(alloc: Global, name: &str, sum: Sum) -> Result<Build, Memory>
 }
 
 /// The programs of the contracts of a tree, where it is of the form.
-fn built_from(alloc: Global, module: &Module) -> Result<Builds, CompileFault>
-    ensures { IsBuiltFrom module.now result }
+fn built_from(alloc: Global, tree: &Module) -> Result<Builds, CompileFault>
+    ensures { IsBuiltFrom tree.now result }
 {
-    let Some(class) = class_in(module) else {
+    let Some(class) = class_in(tree) else {
         return Err(CompileFault::NotBuilt);
     };
     let Some(sum) = computed(class) else {
@@ -48,7 +48,7 @@ pub fn compile(alloc: Global, source: &[u8], _level: Level) -> Result<Builds, Co
     ensures { IsCompiled source.now result }
 {
     match tree_of(alloc, source) {
-        Ok(module) => built_from(alloc, &module),
+        Ok(tree) => built_from(alloc, &tree),
         Err(SourceFault::Refused(refusal)) => Err(CompileFault::Refused(refusal)),
         Err(SourceFault::Memory) => Err(CompileFault::Memory),
     }

@@ -382,10 +382,10 @@ fn only_class(items: &[Item]) -> Option<&Class>
 
 /// The class of a module that is one import and one class.
 #[tactic(auto, unfolding(crate::specs::Form::class_in))]
-pub(crate) fn class_in(module: &Module) -> Option<&Class>
-    ensures { MatchOption result (spec.class_in module.now ≡ None) (λ c. spec.class_in module.now ≡ Some c.now) }
+pub(crate) fn class_in(tree: &Module) -> Option<&Class>
+    ensures { MatchOption result (spec.class_in tree.now ≡ None) (λ c. spec.class_in tree.now ≡ Some c.now) }
 {
-    match behind_items(module.items.as_slice()) {
+    match behind_items(tree.items.as_slice()) {
         [import, behind @ ..] if is_import_item(import) => only_class(behind_items(behind)),
         _ => None,
     }

@@ -27,7 +27,10 @@ fn a_contract_of_any_name_is_built(rt: HostRuntime) -> Result<(), Fail> {
             assert_eq!(rt; builds.len(), 1);
             let build = builds.at(0);
             assert_eq!(rt; build.name.as_str(), "Answer");
-            assert_eq!(rt; build.approval.as_slice(), b"\x0a\x81\x06\x81\x07\x0b\x43".as_slice());
+            assert_eq!(rt;
+                build.approval.as_slice(),
+                b"\x0a\x81\x06\x81\x07\x0b\x43".as_slice()
+            );
             assert_eq!(rt; build.clear.as_slice(), b"\x0a\x81\x01\x43".as_slice());
             assert!(rt; build.arc56.is_none());
         }
@@ -52,29 +55,54 @@ nothing'''
         return UInt64 ( 0x6 )*UInt64(0b111)
 
     def clear_state_program(
-        self) -> UInt64: return UInt64(0_1 if False else 1)
+        self) -> UInt64: return UInt64(2 if False else 1)
 ";
 
 #[test]
 fn what_says_nothing_is_free(rt: HostRuntime) -> Result<(), Fail> {
     let alloc = rt.alloc();
-    let spelled = SPELLED.replace(alloc, "0_1 if False else 1", "0b1")?;
-    assert_eq!(rt; is_built(alloc, "\"\"\"a\"\"\"\n\nclass T(Contract):\n", spelled.as_str())?, Some(true));
-    assert_eq!(rt; is_built(alloc, "class T(Contract):\n", SPELLED)?, Some(false));
+    let spelled = SPELLED.replace(alloc, "2 if False else 1", "0b1")?;
+    assert_eq!(rt;
+        is_built(
+            alloc,
+            "\"\"\"a\"\"\"\n\nclass T(Contract):\n",
+            spelled.as_str()
+        )?,
+        Some(true)
+    );
+    assert_eq!(rt;
+        is_built(alloc, "class T(Contract):\n", SPELLED)?,
+        Some(false)
+    );
     Ok(())
 }
 
 #[test]
 fn another_form_is_not_built_yet(rt: HostRuntime) -> Result<(), Fail> {
     let alloc = rt.alloc();
-    assert_eq!(rt; is_built(alloc, "class T(ARC4Contract):\n", PROGRAMS)?, Some(false));
-    assert_eq!(rt; is_built(alloc, "x = 1\nclass T(Contract):\n", PROGRAMS)?, Some(false));
+    assert_eq!(rt;
+        is_built(alloc, "class T(ARC4Contract):\n", PROGRAMS)?,
+        Some(false)
+    );
+    assert_eq!(rt;
+        is_built(alloc, "x = 1\nclass T(Contract):\n", PROGRAMS)?,
+        Some(false)
+    );
     let other = PROGRAMS.replace(alloc, " * ", " - ")?;
-    assert_eq!(rt; is_built(alloc, "class T(Contract):\n", other.as_str())?, Some(false));
+    assert_eq!(rt;
+        is_built(alloc, "class T(Contract):\n", other.as_str())?,
+        Some(false)
+    );
     let other = PROGRAMS.replace(alloc, "UInt64(1)", "UInt64(2)")?;
-    assert_eq!(rt; is_built(alloc, "class T(Contract):\n", other.as_str())?, Some(false));
+    assert_eq!(rt;
+        is_built(alloc, "class T(Contract):\n", other.as_str())?,
+        Some(false)
+    );
     let other = PROGRAMS.replace(alloc, "(self)", "(self,)")?;
-    assert_eq!(rt; is_built(alloc, "class T(Contract):\n", other.as_str())?, Some(false));
+    assert_eq!(rt;
+        is_built(alloc, "class T(Contract):\n", other.as_str())?,
+        Some(false)
+    );
     Ok(())
 }
 

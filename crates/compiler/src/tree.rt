@@ -3,10 +3,10 @@
 ghost use Rattle.std.specs.Prelude.{◌≤◌, length};
 ghost use Rattle.compiler.specs.Source.{IsRead};
 
+use puya_base::SourceFault;
 use py_grammar::Module;
 use py_lexer::tokens;
 use py_parser::parse;
-use puya_base::SourceFault;
 use std::alloc::Global;
 
 /// The tree of a source of at most 1,048,576 bytes, or the first of the rules P01 to P07 that it breaks.

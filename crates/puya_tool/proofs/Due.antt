@@ -73,6 +73,12 @@ pub build_well : (bs : List Build) (name : Option (List ℕ)) (found : Build) �
 build_well bs None found well is = absurd (cc)
 build_well bs (Some name) found well is = named_well bs name found well is
 
+-- a saved call ends as its call file's text says
+pub text_ends : (builds : List Build) (file text : List ℕ) (saved : Saved) (a : Answer) → saved_of true text ≡ Ok saved → NamedEnds builds file saved a → TextEnds builds file text a
+text_ends builds file text saved (BadCall name f) read ends = (ends.0, inr (saved, read, ends))
+text_ends builds file text saved (Stopped ran) read ends = (saved, read, ends)
+text_ends builds file text saved _ read ends = absurd ends
+
 bad_ends : (form : Form) (builds : List Build) (text file name : List ℕ) (f : CallFault) → AreBuilt form builds
     → (saved_of true text ≡ Err f) ⊎ ((saved : Saved) × (saved_of true text ≡ Ok saved) × NamedEnds builds file saved (BadCall name f)) → IsBadCall form text f
 bad_ends form builds text file name f built (inl e) = inl e

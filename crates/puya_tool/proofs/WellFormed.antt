@@ -1,5 +1,5 @@
 -- A well-formed program is never refused.
-use Rattle.std.proofs.Common.{◌≡◌, ◌≢◌, ℕ, List, Err}
+use Rattle.std.proofs.Common.{◌≡◌, ◌≢◌, ℕ, List, Err, refl}
 use Rattle.avm_run.specs.Form.{IsWellFormed, checked, AnswersAs}
 use Rattle.avm_run.specs.declared.program.ProgramFault.{ProgramFault}
 use Rattle.avm_run.specs.declared.program.ProgramFault.TheVariants as faults
