@@ -1,0 +1,4 @@
+pub mod Offsets
+pub mod Steps
+pub mod Bits
+pub mod Runs

@@ -1,0 +1,19 @@
+//! ARC-4 types and their values: signatures and selectors, and the coding of values as bytes.
+#![tactic(auto)]
+
+mod abi;
+mod abi_fault;
+mod abi_value;
+mod form;
+mod joining;
+mod laws;
+mod method;
+mod number;
+mod placed;
+mod row;
+
+pub use abi::{Abi, Abis};
+pub use abi_fault::AbiFault;
+pub use abi_value::{AbiValue, AbiValues};
+pub use laws::shared_bools_are_read;
+pub use method::{selector, signature};
