@@ -6,7 +6,7 @@ use Rattle.std.proofs.lemmas.Bool.{le-leb, lt-leb, leb-true, leb-false, eqb-true
 use Rattle.arc4_types.specs.declared.abi_fault.AbiFault.{AbiFault}
 use Rattle.arc4_types.specs.declared.abi_fault.AbiFault.TheVariants as fault
 use Rattle.arc4_types.specs.Values.{Val, number, truth, bytes, parts}
-use Rattle.arc4_types.specs.Encoding.{packed_from, packed, flags_of, with_flag}
+use Rattle.arc4_types.specs.Encoding.{packed_from, packed, flags_of, flag_in, with_flag}
 use Rattle.arc4_types.specs.Reading.{◌>>=◌, unpacked, octet_at}
 use Rattle.arc4_types.proofs.Steps.{bind_ok, ok_is, done, else_err, map_some, IsBytes}
 
@@ -109,7 +109,7 @@ pub record AreFlags (k : ℕ) (vs : List Val) (bs : List Bool) : Type 0 where
   pub count : length bs ≡ k
   pub are : vs ≡ map truth bs ++ drop k vs
 
-with_flag_some : (v : Val) (o : Option (List Bool)) (k : ℕ) (vs : List Val) (bs : List Bool) → ((cs : List Bool) → o ≡ Some cs → AreFlags k vs cs) → with_flag v o ≡ Some bs → AreFlags (suc k) (v ∷ vs) bs
+with_flag_some : (v : Val) (o : Option (List Bool)) (k : ℕ) (vs : List Val) (bs : List Bool) → ((cs : List Bool) → o ≡ Some cs → AreFlags k vs cs) → with_flag (flag_in v) o ≡ Some bs → AreFlags (suc k) (v ∷ vs) bs
 with_flag_some (number n) o k vs bs ih e = absurd cc
 with_flag_some (bytes b) o k vs bs ih e = absurd cc
 with_flag_some (parts ws) o k vs bs ih e = absurd cc

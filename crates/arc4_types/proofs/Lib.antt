@@ -2,3 +2,8 @@ pub mod Offsets
 pub mod Steps
 pub mod Bits
 pub mod Runs
+pub mod Packing
+pub mod Heads
+pub mod Placing
+pub mod Equations
+pub mod Coding

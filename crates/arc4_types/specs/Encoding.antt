@@ -7,7 +7,7 @@ use Rattle.arc4_types.specs.declared.placed.Placed.{Placed}
 use Rattle.arc4_types.specs.declared.placed.Placed.TheVariants.{Here, Later}
 use Rattle.arc4_types.specs.Types.{Ty, Tys, uint, byte, flag, text, address, array, fixed, tuple, no_types, a_type, width_of}
 use Rattle.arc4_types.specs.Values.{Val, number, truth, bytes, parts, items_of}
-use Rattle.arc4_types.specs.Groups.{form_of, Part, Group, octet, static, dynamic, groups}
+use Rattle.arc4_types.specs.Groups.{form_of, Part, Group, octet, static, dynamic, covered, groups}
 
 -- what a value of a type is written as, where it has an encoding
 abbrev pub Codes : Type 0
@@ -22,30 +22,39 @@ packed_from w (b ∷ bs) = (if b then w else 0) + packed_from (w / 2) bs
 abbrev pub packed : List Bool → ℕ
 packed bs = packed_from 128 bs
 
-abbrev pub with_flag : Val → Option (List Bool) → Option (List Bool)
-with_flag (truth b) bs = option_map (λ bs. b ∷ bs) bs
-with_flag (number n) bs = None
-with_flag (bytes b) bs = None
-with_flag (parts vs) bs = None
+-- the bool that a value is
+abbrev pub flag_in : Val → Option Bool
+flag_in (truth b) = Some b
+flag_in (number n) = None
+flag_in (bytes b) = None
+flag_in (parts vs) = None
+
+abbrev pub with_flag : Option Bool → Option (List Bool) → Option (List Bool)
+with_flag None bs = None
+with_flag (Some b) bs = option_map (λ bs. b ∷ bs) bs
 
 -- the first so many values, which are bools
 abbrev pub flags_of : ℕ → List Val → Option (List Bool)
 flags_of zero vs = Some []
 flags_of (suc k) [] = None
-flags_of (suc k) (v ∷ vs) = with_flag v (flags_of k vs)
+flags_of (suc k) (v ∷ vs) = with_flag (flag_in v) (flags_of k vs)
 
-abbrev pub before : Placed → Option (List Placed) → Option (List Placed)
-before p ps = option_map (λ ps. p ∷ ps) ps
+-- the encoding of the first value, as it stands there
+abbrev pub first_coded : Codes → (List ℕ → Placed) → List Val → Option Placed
+first_coded code stands [] = None
+first_coded code stands (v ∷ vs) = option_map stands (code v)
+
+-- what stands in the head first
+abbrev pub first_placed : Group Codes → List Val → Option Placed
+first_placed (octet k) vs = option_map (λ bs. Here (packed bs ∷ [])) (flags_of k vs)
+first_placed (static code) vs = first_coded code (λ b. Here b) vs
+first_placed (dynamic code) vs = first_coded code (λ b. Later b) vs
 
 -- the encodings of the parts, each where it stands: as many values as parts
 abbrev pub placed : List (Group Codes) → List Val → Option (List Placed)
 placed [] [] = Some []
 placed [] (v ∷ vs) = None
-placed (octet k ∷ gs) vs = option_and_then (λ bs. before (Here (packed bs ∷ [])) (placed gs (drop k vs))) (flags_of k vs)
-placed (static code ∷ gs) [] = None
-placed (static code ∷ gs) (v ∷ vs) = option_and_then (λ b. before (Here b) (placed gs vs)) (code v)
-placed (dynamic code ∷ gs) [] = None
-placed (dynamic code ∷ gs) (v ∷ vs) = option_and_then (λ b. before (Later b) (placed gs vs)) (code v)
+placed (g ∷ gs) vs = option_and_then (λ p. option_map (λ ps. p ∷ ps) (placed gs (drop (covered g) vs))) (first_placed g vs)
 
 -- how many bytes of the head are a part's
 abbrev pub in_head : Placed → ℕ

@@ -4,7 +4,7 @@ use Rattle.std.proofs.Math.ListN.{replicate}
 use Rattle.arc4_types.specs.declared.abi.Abi.{Abi}
 use Rattle.arc4_types.specs.declared.form.Form.{Form}
 use Rattle.arc4_types.specs.declared.form.Form.TheVariants as form
-use Rattle.arc4_types.specs.Types.{Ty, Tys, uint, byte, flag, text, address, array, fixed, tuple, no_types, a_type}
+use Rattle.arc4_types.specs.Types.{Ty, Tys, uint, byte, flag, text, address, array, fixed, tuple, no_types, a_type, type_of}
 
 -- how an array stands whose parts stand so
 abbrev pub array_form : Form → Form
@@ -45,6 +45,12 @@ pub data Group (A : Type 0) : Type 0 where
   static : A → Group A
   dynamic : A → Group A
 
+-- how many parts that is
+abbrev pub covered : {A : Type 0} → Group A → ℕ
+covered (octet k) = k
+covered (static code) = 1
+covered (dynamic code) = 1
+
 abbrev pub by_form : {A : Type 0} → Form → A → A → A → A
 by_form form.Bool a b c = a
 by_form form.Static a b c = b
@@ -74,3 +80,10 @@ abbrev pub row_of : List Abi → ℕ → List Abi
 row_of [] count = []
 row_of (t ∷ []) count = replicate count t
 row_of (t ∷ u ∷ ts) count = t ∷ u ∷ ts
+
+abbrev pub part_of : {A : Type 0} → (Ty → A) → Abi → Part A
+part_of code t = record { form = form_of (type_of t); code = code (type_of t) }
+
+-- a part of this type at the front of a head, where so many bools stand there
+abbrev pub group_of : {A : Type 0} → (Ty → A) → Abi → ℕ → Group A
+group_of code t bools = by_form (form_of (type_of t)) (octet bools) (static (code (type_of t))) (dynamic (code (type_of t)))

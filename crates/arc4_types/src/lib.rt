@@ -4,6 +4,8 @@
 mod abi;
 mod abi_fault;
 mod abi_value;
+mod bools;
+mod encoding;
 mod form;
 mod joining;
 mod laws;
@@ -16,4 +18,5 @@ pub use abi::{Abi, Abis};
 pub use abi_fault::AbiFault;
 pub use abi_value::{AbiValue, AbiValues};
 pub use laws::shared_bools_are_read;
+pub use encoding::encode;
 pub use method::{selector, signature};

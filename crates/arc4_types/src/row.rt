@@ -1,4 +1,4 @@
-ghost use Rattle.std.specs.Prelude.{◌≡◌, ◌<◌, ◌≤◌, Some, drop, length, map, slice_get};
+ghost use Rattle.std.specs.Prelude.{◌≡◌, ◌+◌, ◌<◌, ◌≤◌, Some, drop, length, map, slice_get};
 ghost use Rattle.arc4_types.specs.Types.{type_of};
 ghost use Rattle.arc4_types.specs.Groups.{bools_in, form_of, row_of};
 
@@ -22,7 +22,9 @@ pub(crate) fn type_at(types: &[Abi], count: usize, i: usize) -> &Abi
 pub(crate) fn bools_from(types: &[Abi], count: usize, i: usize) -> usize
     requires inside { i < count }
     requires row { length (row_of types.now count) ≡ count }
-    ensures { result ≡ bools_in (drop i (map (λ t. form_of (type_of t)) (row_of types.now count))) 8 }
+    ensures value { result ≡ bools_in (drop i (map (λ t. form_of (type_of t)) (row_of types.now count))) 8 }
+    ensures most { result ≤ 8 }
+    ensures within { i + result ≤ count }
 {
     let mut run = 0;
     while run < 8 && i + run < count && form_of(type_at(types, count, i + run)) == Form::Bool {
