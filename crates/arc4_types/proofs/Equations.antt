@@ -24,6 +24,15 @@ type-Tuple ts = ap type_of (sym (rolls-Tuple ts)) ∙ fold-roll-Abi Ty type_step
 pub value-Number : (n : ℕ) → value_of (Number n) ≡ number n
 value-Number n = ap value_of (sym (rolls-Number n)) ∙ fold-roll-AbiValue Val value_step (AbiValue-F.Number n)
 
+pub value_flag : (b : Bool) → value_of (Flag b) ≡ truth b
+value_flag b = ap value_of (sym (rolls-Flag b)) ∙ fold-roll-AbiValue Val value_step (AbiValue-F.Flag b)
+
+pub value_number : (n : ℕ) → value_of (Number n) ≡ number n
+value_number n = ap value_of (sym (rolls-Number n)) ∙ fold-roll-AbiValue Val value_step (AbiValue-F.Number n)
+
+pub value_data : (b : List ℕ) → value_of (Data b) ≡ bytes b
+value_data b = ap value_of (sym (rolls-Data b)) ∙ fold-roll-AbiValue Val value_step (AbiValue-F.Data b)
+
 pub value-Flag : (b : Bool) → value_of (Flag b) ≡ truth b
 value-Flag b = ap value_of (sym (rolls-Flag b)) ∙ fold-roll-AbiValue Val value_step (AbiValue-F.Flag b)
 

@@ -7,3 +7,5 @@ pub mod Heads
 pub mod Placing
 pub mod Equations
 pub mod Coding
+pub mod Unpacking
+pub mod Told

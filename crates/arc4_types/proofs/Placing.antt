@@ -38,12 +38,12 @@ first_placed-take (octet k) vs = rw (flags_of-take k vs) refl
 first_placed-take (static code) vs = first_coded-take code (λ b. Here b) vs
 first_placed-take (dynamic code) vs = first_coded-take code (λ b. Later b) vs
 
-covered_is : {A : Type 0} (f : Form) (a : A) (n : ℕ) → (n ≡ by_form f n 0 0) → covered (by_form f (octet (max n 1)) (static a) (dynamic a)) ≡ max n 1
+pub covered_is : {A : Type 0} (f : Form) (a : A) (n : ℕ) → (n ≡ by_form f n 0 0) → covered (by_form f (octet (max n 1)) (static a) (dynamic a)) ≡ max n 1
 covered_is form.Bool a n e = refl
 covered_is form.Static a n e = omega arith
 covered_is form.Dynamic a n e = omega arith
 
-no_bools : (fs : List Form) (f : Form) (n : ℕ) → n ≡ bools_in (f ∷ fs) 8 → n ≡ by_form f n 0 0
+pub no_bools : (fs : List Form) (f : Form) (n : ℕ) → n ≡ bools_in (f ∷ fs) 8 → n ≡ by_form f n 0 0
 no_bools fs form.Bool n e = refl
 no_bools fs form.Static n e = e
 no_bools fs form.Dynamic n e = e

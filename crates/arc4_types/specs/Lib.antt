@@ -4,3 +4,4 @@ pub mod Values
 pub mod Groups
 pub mod Encoding
 pub mod Reading
+pub mod Views

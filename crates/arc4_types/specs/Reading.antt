@@ -35,10 +35,13 @@ abbrev pub unpacked : ℕ → ℕ → ℕ → Result (List Bool) AbiFault
 unpacked w zero x = if x == 0 then Ok [] else Err fault.Bit
 unpacked w (suc k) x = if nat_le w x then (unpacked (w / 2) k (x - w) >>= λ bs. Ok (true ∷ bs)) else (unpacked (w / 2) k x >>= λ bs. Ok (false ∷ bs))
 
+abbrev pub byte_at : Reads ℕ
+byte_at [] = Err fault.Length
+byte_at (b ∷ bs) = Ok (b, bs)
+
 -- the byte of so many bools
 abbrev pub octet_at : ℕ → Reads (List Bool)
-octet_at k [] = Err fault.Length
-octet_at k (b ∷ bs) = unpacked 128 k b >>= λ flags. Ok (flags, bs)
+octet_at k bs = byte_at bs >>= λ x. (unpacked 128 k x.0 >>= λ flags. Ok (flags, x.1))
 
 -- a bool alone
 abbrev pub one_flag : List Bool → Val
@@ -49,33 +52,43 @@ one_flag (b ∷ bs) = truth b
 abbrev pub text_at : Reads (List ℕ)
 text_at bs = number_at w16 bs >>= λ n. taken n.0 n.1
 
--- what a head tells of a part: its value, or the offset of its tail and how that is read
-pub data Entry : Type 0 where
-  seen : Val → Entry
-  waits : ℕ → Reads Val → Entry
+-- what a head tells of a part: its value, or the offset of its tail
+pub data Told : Type 0 where
+  told : Val → Told
+  waits : ℕ → Told
 
-abbrev pub flags_seen : List Bool → List Entry
-flags_seen flags = map (λ b. seen (truth b)) flags
+abbrev pub flags_told : List Bool → List Told
+flags_told flags = map (λ b. told (truth b)) flags
+
+-- what stands in the head first
+abbrev pub first_told : Group (Reads Val) → Reads (List Told)
+first_told (octet k) bs = mapped flags_told (octet_at k bs)
+first_told (static read) bs = mapped (λ v. told v ∷ []) (read bs)
+first_told (dynamic read) bs = mapped (λ offset. waits offset ∷ []) (number_at w16 bs)
 
 -- the parts of a head in order
-abbrev pub head_at : List (Group (Reads Val)) → Reads (List Entry)
+abbrev pub head_at : List (Group (Reads Val)) → Reads (List Told)
 head_at [] bs = Ok ([], bs)
-head_at (octet k ∷ gs) bs = octet_at k bs >>= λ x. mapped (λ es. flags_seen x.0 ++ es) (head_at gs x.1)
-head_at (static read ∷ gs) bs = read bs >>= λ x. mapped (λ es. seen x.0 ∷ es) (head_at gs x.1)
-head_at (dynamic read ∷ gs) bs = number_at w16 bs >>= λ x. mapped (λ es. waits x.0 read ∷ es) (head_at gs x.1)
+head_at (g ∷ gs) bs = first_told g bs >>= λ x. mapped (λ ts. x.0 ++ ts) (head_at gs x.1)
 
--- the values of the parts: for each that waits its offset against the place reached, then its tail. So many bytes stood there from the tuple's start on
-abbrev pub tails_at : ℕ → List Entry → Reads (List Val)
-tails_at whole [] bs = Ok ([], bs)
-tails_at whole (seen v ∷ es) bs = mapped (λ vs. v ∷ vs) (tails_at whole es bs)
-tails_at whole (waits offset read ∷ es) bs =
-    if offset == whole - length bs
-    then (read bs >>= λ x. mapped (λ vs. x.0 ∷ vs) (tails_at whole es x.1))
-    else Err fault.Offset
+-- the value of a part: where its tail is to come, its offset against the place reached, then the tail.
+-- So many bytes stood there from the tuple's start on
+abbrev pub tail_at : ℕ → Reads Val → Told → Reads Val
+tail_at whole read (told v) bs = Ok (v, bs)
+tail_at whole read (waits offset) bs = if offset == whole - length bs then read bs else Err fault.Offset
+
+-- the values of the parts in order
+abbrev pub tails_at : ℕ → List (Reads Val) → List Told → Reads (List Val)
+tails_at whole reads [] bs = Ok ([], bs)
+tails_at whole [] (t ∷ ts) bs = Err fault.Length
+tails_at whole (read ∷ reads) (t ∷ ts) bs = tail_at whole read t bs >>= λ x. mapped (λ vs. x.0 ∷ vs) (tails_at whole reads ts x.1)
+
+abbrev pub codes_in : List (Part (Reads Val)) → List (Reads Val)
+codes_in ps = map (λ p. p.code) ps
 
 -- the parts of a tuple: the head, then the tails
 abbrev pub row_at : List (Part (Reads Val)) → Reads Val
-row_at ps bs = head_at (groups 0 ps) bs >>= λ h. mapped (λ vs. parts (vals_of vs)) (tails_at (length bs) h.0 h.1)
+row_at ps bs = head_at (groups 0 ps) bs >>= λ h. mapped (λ vs. parts (vals_of vs)) (tails_at (length bs) (codes_in ps) h.0 h.1)
 
 abbrev mutual
   -- a value of the type at the front of the bytes
