@@ -88,6 +88,7 @@ fn read_part(
 
 /// What the head of a row tells of its parts.
 #[cycle(read)]
+#[tactic(auto, using(crate::proofs::Told::head_done))]
 fn read_head(
     alloc: Global,
     types: &[Abi],
