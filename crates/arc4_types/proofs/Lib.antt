@@ -9,3 +9,5 @@ pub mod Equations
 pub mod Coding
 pub mod Unpacking
 pub mod Told
+pub mod Numbers
+pub mod Good

@@ -7,6 +7,7 @@ use crate::abi_fault::AbiFault;
 use std::marker::Model;
 
 /// Bytes that are read from the front. A contract sees those that are left.
+#[derive(Drop)]
 pub(crate) struct Cursor<'a> {
     rest: &'a [u8],
 }

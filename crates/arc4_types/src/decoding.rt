@@ -196,3 +196,15 @@ fn read(alloc: Global, ty: &Abi, from: &mut Cursor<'_>) -> Result<AbiValue, AbiF
         Abi::Tuple(types) => read_row(alloc, types.as_slice(), types.len(), from),
     }
 }
+
+/// The value that all the bytes are an encoding of.
+fn whole(alloc: Global, ty: &Abi, bytes: &[u8]) -> Result<AbiValue, AbiFault>
+    ensures { Gives value_of result (decoding (type_of ty.now) bytes.now) }
+{
+    let mut from = Cursor::new(bytes);
+    let value = read(alloc, ty, &mut from)?;
+    if from.left() != 0 {
+        return Err(AbiFault::Length);
+    }
+    Ok(value)
+}
