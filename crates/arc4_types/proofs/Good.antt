@@ -33,10 +33,10 @@ pub record Good (code : Codes) (read : Reads Val) : Type 0 where
   pub again : (v : Val) (text rest : List ℕ) → code v ≡ Some text → read (text ++ rest) ≡ Ok (v, rest)
   pub takes : (bs : List ℕ) (v : Val) (rest : List ℕ) → IsBytes bs → read bs ≡ Ok (v, rest) → Taken code bs v rest
 
-abbrev some : {A : Type 0} → A → Option A
+abbrev pub some : {A : Type 0} → A → Option A
 some x = Some x
 
-some_is : {A : Type 0} (x y : A) → some x ≡ some y → x ≡ y
+pub some_is : {A : Type 0} (x y : A) → some x ≡ some y → x ≡ y
 some_is x y e = cc
 
 -- ---- rows: parts that belong together

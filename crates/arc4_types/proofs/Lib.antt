@@ -11,3 +11,4 @@ pub mod Unpacking
 pub mod Told
 pub mod Numbers
 pub mod Good
+pub mod Whole

@@ -155,17 +155,21 @@ parts_in_groups zero (p ∷ ps) h =
     let r : parts_in (groups 0 (p ∷ ps)) ≡ suc (length ps) = parts_at p.form p.code ps (λ n l. parts_in_groups n ps l) in
     omega (arith, r)
 
+-- as many values as parts are written
+pub row_counts : (ps : List (Part Codes)) (vs : List Val) (b : List ℕ) → row_coding ps vs ≡ Some b → length vs ≡ length ps
+row_counts ps vs b e =
+    let t = then_some (placed (groups 0 ps) vs) joined b e in
+    let c = counts (groups 0 ps) vs t.got t.first in
+    let r = parts_in_groups 0 ps (omega arith) in
+    omega (arith, c, r)
+
 -- a row of another number of values has no encoding
 some_or_none : (o : Option (List ℕ)) → ((b : List ℕ) → o ≡ Some b → ⊥) → None ≡ o
 some_or_none None h = refl
 some_or_none (Some b) h = absurd (h b refl)
 
 pub row_of_others : (ps : List (Part Codes)) (vs : List Val) → (length vs ≡ length ps → ⊥) → None ≡ row_coding ps vs
-row_of_others ps vs h = some_or_none (row_coding ps vs) (λ b e.
-    let t = then_some (placed (groups 0 ps) vs) joined b e in
-    let c = counts (groups 0 ps) vs t.got t.first in
-    let r = parts_in_groups 0 ps (omega arith) in
-    h (omega (arith, c, r)))
+row_of_others ps vs h = some_or_none (row_coding ps vs) (λ b e. h (row_counts ps vs b e))
 
 -- ---- rows as the types have them
 

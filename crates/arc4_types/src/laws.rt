@@ -1,12 +1,25 @@
 //! Laws over the definitions.
 
-ghost use Rattle.std.specs.Prelude.{◌≡◌, ◌≤◌, Bool, List, ℕ, length, Ok, ◌∷◌};
-ghost use Rattle.arc4_types.specs.Encoding.{packed};
-ghost use Rattle.arc4_types.specs.Reading.{octet_at};
+ghost use Rattle.std.specs.Prelude.{◌≡◌, ◌<◌, List, ℕ, Ok, Some, slice_index};
+ghost use Rattle.arc4_types.specs.Types.{Ty};
+ghost use Rattle.arc4_types.specs.Values.{Val};
+ghost use Rattle.arc4_types.specs.Encoding.{coding};
+ghost use Rattle.arc4_types.specs.Reading.{decoding};
 
-/// Bools that share a byte are read from it again.
-#[tactic(auto, using(crate::proofs::Bits::octet_again, crate::proofs::Heads::next_group, crate::proofs::Placing::placed_more, crate::proofs::Told::array_fails, crate::proofs::Good::row_takes))]
-pub fn shared_bools_are_read()
-    ensures { (bs : List Bool) (rest : List ℕ) → length bs ≤ 8 → octet_at (length bs) (packed bs ∷ rest) ≡ Ok (bs, rest) }
+/// Reading an encoding gives its value, whatever the type.
+pub fn encodings_are_read()
+    ensures { (t : Ty) (v : Val) (bytes : List ℕ) → coding t v ≡ Some bytes → decoding t bytes ≡ Ok v }
+{
+}
+
+/// What reading takes is an encoding of what it gives.
+pub fn only_encodings_are_read()
+    ensures { (t : Ty) (v : Val) (bytes : List ℕ) → ((i : ℕ) → slice_index bytes i < 256) → decoding t bytes ≡ Ok v → coding t v ≡ Some bytes }
+{
+}
+
+/// No two values of a type have one encoding.
+pub fn encoding_is_injective()
+    ensures { (t : Ty) (v w : Val) (bytes : List ℕ) → coding t v ≡ Some bytes → coding t w ≡ Some bytes → v ≡ w }
 {
 }

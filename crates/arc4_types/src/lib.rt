@@ -21,6 +21,6 @@ mod row;
 pub use abi::{Abi, Abis};
 pub use abi_fault::AbiFault;
 pub use abi_value::{AbiValue, AbiValues};
-pub use laws::shared_bools_are_read;
+pub use laws::{encoding_is_injective, encodings_are_read, only_encodings_are_read};
 pub use encoding::encode;
 pub use method::{selector, signature};
