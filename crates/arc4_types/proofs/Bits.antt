@@ -85,8 +85,8 @@ packs zero (suc (suc k)) x bs h l e = absurd (omega arith)
 packs (suc m) (suc k) x bs h l e =
     let p : 2 ^ suc (suc m) ≡ 2 * 2 ^ suc m = pow-succ' 2 (suc m) in
     packs_at (2 ^ suc m) k x bs (leb (2 ^ suc m) x) refl
-      (λ y cs q lt. subst (λ (w : ℕ). Packs w k y cs) (sym (half m)) (packs m k y cs (omega arith) lt (subst (λ (w : ℕ). unpacked w k y ≡ Ok cs) (half m) q)))
-      (omega (arith, p)) e
+    (λ y cs q lt. subst (λ (w : ℕ). Packs w k y cs) (sym (half m)) (packs m k y cs (omega arith) lt (subst (λ (w : ℕ). unpacked w k y ≡ Ok cs) (half m) q)))
+    (omega (arith, p)) e
 
 pub octet_again : (bs : List Bool) (rest : List ℕ) → length bs ≤ 8 → octet_at (length bs) (packed bs ∷ rest) ≡ Ok (bs, rest)
 octet_again bs rest h = let e : unpacked 128 (length bs) (packed_from 128 bs) ≡ Ok bs = unpack_packed 7 bs h in rw e refl

@@ -81,7 +81,7 @@ groups_alike {ps = p ∷ ps} {qs = q ∷ qs} (also form.Bool g a) zero =
     let w : n ≤ length (codes_in qs) = let b = bools_within (forms ps) 7 in omega (arith, b, length-map ps (λ p. p.form), lengths_agree a, length-map qs (λ q. q.code)) in
     let hs : Alike (groups n ps) (groups n qs) (drop n (codes_in qs)) = groups_alike a n in
     octets_alike n (bools_in (forms qs) 7) (groups n ps) (groups (bools_in (forms qs) 7) qs) q.code (codes_in qs) e (bools_at_most (forms ps) 7) w
-      (subst (λ k. Alike (groups n ps) (groups k qs) (drop n (codes_in qs))) e hs)
+    (subst (λ k. Alike (groups n ps) (groups k qs) (drop n (codes_in qs))) e hs)
 
 -- ---- from the encoding to what is read
 
@@ -313,31 +313,31 @@ record TailsTaken (gs : List (Group Codes)) (vs : List Val) (at : ℕ) (h bs res
 bools_taken : (gs : List (Group Codes)) (vs all : List Val) (at : ℕ) (h bs rest : List ℕ) (flags : List Bool) → map truth flags ++ vs ≡ all → TailsTaken gs vs at h bs rest → TailsTaken (octet (length flags) ∷ gs) all at (packed flags ∷ h) bs rest
 bools_taken gs vs all at h bs rest flags q t =
     let i : placed (octet (length flags) ∷ gs) (map truth flags ++ vs) ≡ Some (Here (packed flags ∷ []) ∷ t.es) =
-        ap (λ o. option_and_then (λ p. option_map (λ ps. p ∷ ps) (placed gs (drop (length flags) (map truth flags ++ vs)))) (option_map (λ bs. Here (packed bs ∷ [])) o)) (flags_of-truths flags vs)
-        ∙ ap (λ ws. option_map (λ ps. Here (packed flags ∷ []) ∷ ps) (placed gs ws)) (drop-truths flags vs) ∙ ap (option_map (λ ps. Here (packed flags ∷ []) ∷ ps)) t.is in
+    ap (λ o. option_and_then (λ p. option_map (λ ps. p ∷ ps) (placed gs (drop (length flags) (map truth flags ++ vs)))) (option_map (λ bs. Here (packed bs ∷ [])) o)) (flags_of-truths flags vs)
+    ∙ ap (λ ws. option_map (λ ps. Here (packed flags ∷ []) ∷ ps) (placed gs ws)) (drop-truths flags vs) ∙ ap (option_map (λ ps. Here (packed flags ∷ []) ∷ ps)) t.is in
     subst (λ ws. TailsTaken (octet (length flags) ∷ gs) ws at (packed flags ∷ h) bs rest) q
-      (record { es = Here (packed flags ∷ []) ∷ t.es; is = i; head = ap (λ z. packed flags ∷ z) t.head; fit = t.fit; split = t.split })
+    (record { es = Here (packed flags ∷ []) ∷ t.es; is = i; head = ap (λ z. packed flags ∷ z) t.head; fit = t.fit; split = t.split })
 
 value_taken : (code : Codes) (gs : List (Group Codes)) (v : Val) (vs all : List Val) (at : ℕ) (b h bs rest : List ℕ) → code v ≡ Some b → v ∷ vs ≡ all → TailsTaken gs vs at h bs rest → TailsTaken (static code ∷ gs) all at (b ++ h) bs rest
 value_taken code gs v vs all at b h bs rest c q t =
     let i : placed (static code ∷ gs) (v ∷ vs) ≡ Some (Here b ∷ t.es) =
-        ap (λ o. option_and_then (λ p. option_map (λ ps. p ∷ ps) (placed gs vs)) (option_map (λ b. Here b) o)) c ∙ ap (option_map (λ ps. Here b ∷ ps)) t.is in
+    ap (λ o. option_and_then (λ p. option_map (λ ps. p ∷ ps) (placed gs vs)) (option_map (λ b. Here b) o)) c ∙ ap (option_map (λ ps. Here b ∷ ps)) t.is in
     subst (λ ws. TailsTaken (static code ∷ gs) ws at (b ++ h) bs rest) q
-      (record { es = Here b ∷ t.es; is = i; head = ap (λ (z : List ℕ). b ++ z) t.head; fit = t.fit; split = t.split })
+    (record { es = Here b ∷ t.es; is = i; head = ap (λ (z : List ℕ). b ++ z) t.head; fit = t.fit; split = t.split })
 
 tail_taken : (code : Codes) (gs : List (Group Codes)) (v : Val) (vs all : List Val) (at o : ℕ) (b h bs left rest : List ℕ) → code v ≡ Some b → v ∷ vs ≡ all → o ≡ at → o < 65536 → bs ≡ b ++ left → TailsTaken gs vs (at + length b) h left rest
     → TailsTaken (dynamic code ∷ gs) all at (to_be_bytes w16 o ++ h) bs rest
 tail_taken code gs v vs all at o b h bs left rest c q w l p t =
     let i : placed (dynamic code ∷ gs) (v ∷ vs) ≡ Some (Later b ∷ t.es) =
-        ap (λ o. option_and_then (λ p. option_map (λ ps. p ∷ ps) (placed gs vs)) (option_map (λ b. Later b) o)) c ∙ ap (option_map (λ ps. Later b ∷ ps)) t.is in
+    ap (λ o. option_and_then (λ p. option_map (λ ps. p ∷ ps) (placed gs vs)) (option_map (λ b. Later b) o)) c ∙ ap (option_map (λ ps. Later b ∷ ps)) t.is in
     subst (λ ws. TailsTaken (dynamic code ∷ gs) ws at (to_be_bytes w16 o ++ h) bs rest) q
-      (record {
-        es = Later b ∷ t.es;
-        is = i;
-        head = ap (λ k. to_be_bytes w16 k ++ h) w ∙ ap (λ (z : List ℕ). to_be_bytes w16 at ++ z) t.head;
-        fit = and_from (ltb at 65536) (offsets_fit (at + length b) t.es) (lt-ltb at 65536 (omega arith)) t.fit;
-        split = p ∙ ap (λ (z : List ℕ). b ++ z) t.split ∙ sym (append_assoc b (tails t.es) rest);
-      })
+    (record {
+      es = Later b ∷ t.es;
+      is = i;
+      head = ap (λ k. to_be_bytes w16 k ++ h) w ∙ ap (λ (z : List ℕ). to_be_bytes w16 at ++ z) t.head;
+      fit = and_from (ltb at 65536) (offsets_fit (at + length b) t.es) (lt-ltb at 65536 (omega arith)) t.fit;
+      split = p ∙ ap (λ (z : List ℕ). b ++ z) t.split ∙ sym (append_assoc b (tails t.es) rest);
+    })
 
 tails_takes : {gs : List (Group Codes)} {rs : List (Reads Val)} {ts : List Told} {h : List ℕ} → Tells gs rs ts h → (whole at : ℕ) (bs : List ℕ) (vs : List Val) (rest : List ℕ) → IsBytes bs → at + length bs ≡ whole
     → tails_at whole rs ts bs ≡ Ok (vs, rest) → TailsTaken gs vs at h bs rest

@@ -43,7 +43,7 @@ next_group {A} code ts i n t e b =
     let ps = drop (suc i) (map (part_of code) ts) in
     let d : drop i (map (part_of code) ts) ≡ part_of code t ∷ ps = mapped_from (part_of code) ts i t e in
     let c : n ≡ by_form (form_of (type_of t)) (suc (bools_in (forms ps) 7)) 0 0 =
-        b ∙ ap (λ fs. bools_in fs 8) (mapped_from (λ t. form_of (type_of t)) ts i t e) ∙ ap (λ fs. by_form (form_of (type_of t)) (suc (bools_in fs 7)) 0 0) (sym (forms_from code (suc i) ts)) in
+    b ∙ ap (λ fs. bools_in fs 8) (mapped_from (λ t. form_of (type_of t)) ts i t e) ∙ ap (λ fs. by_form (form_of (type_of t)) (suc (bools_in fs 7)) 0 0) (sym (forms_from code (suc i) ts)) in
     let g = group_at (form_of (type_of t)) (code (type_of t)) (part_of code t) ps n c in
     let back : drop (max n 1) (part_of code t ∷ ps) ≡ drop (i + max n 1) (map (part_of code) ts) = ap (λ (xs : List (Part A)). drop (max n 1) xs) (sym d) ∙ drop-drop (max n 1) i (map (part_of code) ts) in
     ap (λ (xs : List (Part A)). groups 0 xs) d ∙ g ∙ ap (λ (xs : List (Part A)). group_of code t (max n 1) ∷ groups 0 xs) back

@@ -34,7 +34,6 @@ heads_capped (Later b ∷ ps) n m e f =
     let s : n ≡ m = omega arith in
     ap (λ x. heads x (Later b ∷ ps)) s
 
-
 pub fits_min : (ps : List Placed) (n : ℕ) → offsets_fit (min n 65536) ps ≡ offsets_fit n ps
 fits_min ps n = fits_capped ps (min n 65536) n (omega arith)
 
@@ -65,4 +64,3 @@ head_later ps i n m p b out more whole h e l c f o w =
     let hm : heads m (drop (i + 1) ps) ≡ heads (n + length b) (drop (i + 1) ps) = ap (λ x. heads x (drop (i + 1) ps)) c ∙ heads_min (drop (i + 1) ps) (n + length b) t.1 in
     let v : out ++ (to_be_bytes w16 n ++ heads (n + length b) (drop (i + 1) ps)) ≡ whole = subst (λ (qs : List Placed). out ++ heads n qs ≡ whole) a w in
     (fm, ap (λ x. more ++ x) hm ∙ ap (λ (x : List ℕ). x ++ heads (n + length b) (drop (i + 1) ps)) o ∙ append_assoc out (to_be_bytes w16 n) (heads (n + length b) (drop (i + 1) ps)) ∙ v)
-

@@ -23,7 +23,7 @@ pub packed_more : (vs : List AbiValue) (i byte w more : ℕ) (v : AbiValue) (b :
 packed_more vs i byte w more v b t h e f m p =
     let a : packed_after byte w (v ∷ drop (i + 1) vs) ≡ t = subst (λ us. packed_after byte w us ≡ t) (from_value vs i v h e) p in
     let c : option_map (λ bs. byte + packed_from w bs) (with_flag (Some b) (flags_of (length (drop (i + 1) vs)) (map value_of (drop (i + 1) vs)))) ≡ t
-        = subst (λ o. option_map (λ bs. byte + packed_from w bs) (with_flag o (flags_of (length (drop (i + 1) vs)) (map value_of (drop (i + 1) vs)))) ≡ t) f a in
+    = subst (λ o. option_map (λ bs. byte + packed_from w bs) (with_flag o (flags_of (length (drop (i + 1) vs)) (map value_of (drop (i + 1) vs)))) ≡ t) f a in
     ap (λ n. packed_after n (w / 2) (drop (i + 1) vs)) m ∙ sym (regroup byte w b (flags_of (length (drop (i + 1) vs)) (map value_of (drop (i + 1) vs)))) ∙ c
 
 pub packed_not : (vs : List AbiValue) (i byte w : ℕ) (v : AbiValue) (t : Option ℕ) → i < length vs → v ≡ get_or vs i v → flag_in (value_of v) ≡ None → packed_after byte w (drop i vs) ≡ t → None ≡ t

@@ -60,13 +60,13 @@ module _ (ts : List Abi) (values : List AbiValue) (i n : ℕ) (t : Abi) (e : sli
   -- the part that is placed next, and the rest
   splits : placed (groups 0 (drop i (map (part_of coding) ts))) (drop i (map value_of values))
       ≡ option_and_then (λ p. option_map (λ ps. p ∷ ps) (placed (groups 0 (drop (i + max n 1) (map (part_of coding) ts))) (drop (i + max n 1) (map value_of values))))
-          (first_placed (group_of coding t (max n 1)) (map value_of (slice_range values i (i + max n 1))))
+      (first_placed (group_of coding t (max n 1)) (map value_of (slice_range values i (i + max n 1))))
   splits =
       let vs = drop i (map value_of values) in
       let gs = groups 0 (drop (i + max n 1) (map (part_of coding) ts)) in
       let g = group_of coding t (max n 1) in
       let taken : first_placed g (map value_of (slice_range values i (i + max n 1))) ≡ first_placed g vs =
-          ap (first_placed g) (values_from values i (max n 1)) ∙ ap (λ k. first_placed g (take k vs)) (sym group_covers) ∙ first_placed-take g vs in
+      ap (first_placed g) (values_from values i (max n 1)) ∙ ap (λ k. first_placed g (take k vs)) (sym group_covers) ∙ first_placed-take g vs in
       let rest : drop (covered g) vs ≡ drop (i + max n 1) (map value_of values) = ap (λ k. drop k vs) group_covers ∙ drop-drop (max n 1) i (map value_of values) in
       ap (λ (xs : List (Group Codes)). placed xs vs) (next_group coding ts i n t e b)
       ∙ ap (λ (us : List Val). option_and_then (λ p. option_map (λ ps. p ∷ ps) (placed gs us)) (first_placed g vs)) rest
@@ -85,9 +85,9 @@ pub placed_more : (ts : List Abi) (values : List AbiValue) (i n end len : ℕ) (
 placed_more ts values i n end len t p front more total e b d l f m h =
     let rest = placed (groups 0 (drop (i + max n 1) (map (part_of coding) ts))) (drop (i + max n 1) (map value_of values)) in
     let first : first_placed (group_of coding t (max n 1)) (map value_of (slice_range values i (i + max n 1))) ≡ Some p =
-        ap (λ k. first_placed (group_of coding t k) (map value_of (slice_range values i (i + max n 1)))) (sym l) ∙ ap (λ k. first_placed (group_of coding t len) (map value_of (slice_range values i k))) (sym d) ∙ sym f in
+    ap (λ k. first_placed (group_of coding t k) (map value_of (slice_range values i (i + max n 1)))) (sym l) ∙ ap (λ k. first_placed (group_of coding t len) (map value_of (slice_range values i k))) (sym d) ∙ sym f in
     let s : placed_after front (option_map (λ ps. p ∷ ps) rest) ≡ total =
-        ap (λ o. placed_after front (option_and_then (λ p. option_map (λ ps. p ∷ ps) rest) o)) (sym first) ∙ ap (placed_after front) (sym (splits ts values i n t e b)) ∙ h in
+    ap (λ o. placed_after front (option_and_then (λ p. option_map (λ ps. p ∷ ps) rest) o)) (sym first) ∙ ap (placed_after front) (sym (splits ts values i n t e b)) ∙ h in
     ap (λ k. placed_after more (placed (groups 0 (drop k (map (part_of coding) ts))) (drop k (map value_of values)))) d ∙ ap (λ fs. placed_after fs rest) m ∙ sym (regroup front p rest) ∙ s
 
 -- a part has no encoding
@@ -99,7 +99,7 @@ pub placed_none : (ts : List Abi) (values : List AbiValue) (i n end len : ℕ) (
 placed_none ts values i n end len t front total e b d l f h =
     let rest = placed (groups 0 (drop (i + max n 1) (map (part_of coding) ts))) (drop (i + max n 1) (map value_of values)) in
     let first : first_placed (group_of coding t (max n 1)) (map value_of (slice_range values i (i + max n 1))) ≡ None =
-        ap (λ k. first_placed (group_of coding t k) (map value_of (slice_range values i (i + max n 1)))) (sym l) ∙ ap (λ k. first_placed (group_of coding t len) (map value_of (slice_range values i k))) (sym d) ∙ sym f in
+    ap (λ k. first_placed (group_of coding t k) (map value_of (slice_range values i (i + max n 1)))) (sym l) ∙ ap (λ k. first_placed (group_of coding t len) (map value_of (slice_range values i k))) (sym d) ∙ sym f in
     ap (λ o. placed_after front (option_and_then (λ p. option_map (λ ps. p ∷ ps) rest) o)) (sym first) ∙ ap (placed_after front) (sym (splits ts values i n t e b)) ∙ h
 
 past_values : (values : List AbiValue) (i : ℕ) → length values ≤ i → drop i (map value_of values) ≡ []

@@ -63,7 +63,7 @@ head_more ts i n end k t front more bs rest total e b c d f h =
     let q : end ≡ i + max n 1 = d ∙ ap (λ z. i + z) c in
     let r = head_at (groups 0 (drop (i + max n 1) (map (part_of reading) ts))) rest in
     let s : told_behind front (told_behind x.told r) ≡ total =
-        ap (λ z. told_behind front (z >>= λ x. told_behind x.0 (head_at (groups 0 (drop (i + max n 1) (map (part_of reading) ts))) x.1))) (sym x.is) ∙ ap (told_behind front) (sym (head_splits ts i n t e b bs)) ∙ h in
+    ap (λ z. told_behind front (z >>= λ x. told_behind x.0 (head_at (groups 0 (drop (i + max n 1) (map (part_of reading) ts))) x.1))) (sym x.is) ∙ ap (told_behind front) (sym (head_splits ts i n t e b bs)) ∙ h in
     ap (λ z. told_behind more (head_at (groups 0 (drop z (map (part_of reading) ts))) rest)) q ∙ ap (λ z. told_behind z r) (sym x.new_is) ∙ sym (behind front x.told r) ∙ s
 
 fails_bind : {A B : Type 0} (d : AbiFault) (r : Result A AbiFault) (f : A → Result B AbiFault) → Fails d r → Fails d (r >>= f)
@@ -144,8 +144,8 @@ pub tails_more : (ts : List Abi) (i whole : ℕ) (t : Abi) (x : Told) (front mor
 tails_more ts i whole t x front more v here left bs rest total e p m f h =
     let r = tails_at whole (drop (i + 1) (readers ts)) left rest in
     let s : values_behind front (mapped (λ vs. v ∷ vs) r) ≡ total =
-        ap (λ z. values_behind front (z >>= λ y. mapped (λ vs. y.0 ∷ vs) (tails_at whole (drop (i + 1) (readers ts)) left y.1))) (sym f)
-        ∙ ap (values_behind front) (sym (tails_split ts i whole t x left bs e)) ∙ ap (λ z. values_behind front (tails_at whole (drop i (readers ts)) z bs)) (sym p) ∙ h in
+    ap (λ z. values_behind front (z >>= λ y. mapped (λ vs. y.0 ∷ vs) (tails_at whole (drop (i + 1) (readers ts)) left y.1))) (sym f)
+    ∙ ap (values_behind front) (sym (tails_split ts i whole t x left bs e)) ∙ ap (λ z. values_behind front (tails_at whole (drop i (readers ts)) z bs)) (sym p) ∙ h in
     ap (λ z. values_behind z r) m ∙ sym (behind_value front v r) ∙ s
 
 pub tails_fail : (ts : List Abi) (i whole : ℕ) (t : Abi) (d : AbiFault) (x : Told) (front : List Val) (here left : List Told) (bs : List ℕ) (total : Result (List Val × List ℕ) AbiFault)

@@ -3,7 +3,7 @@ use Rattle.std.proofs.Common.{◌≡◌, ◌∙◌, ℕ, zero, suc, ◌+◌, ◌
 use Rattle.std.proofs.Math.ListN.{replicate, length-replicate}
 use Rattle.std.proofs.lemmas.List.{append-nil, nil_from_length}
 use Rattle.std.proofs.lemmas.Bool.{ltb-true, lt-ltb, eqb-true, eq-eqb}
-use Rattle.std.specs.Prelude.{option_map}
+use Rattle.std.specs.Prelude.{option_map, IfOk}
 use Rattle.std.specs.Int.{Width, w8, w16, byte_len, to_be_bytes, from_be_bytes}
 use Rattle.arc4_types.specs.declared.abi_fault.AbiFault.{AbiFault}
 use Rattle.arc4_types.specs.declared.abi_fault.AbiFault.TheVariants as fault
@@ -12,7 +12,7 @@ use Rattle.arc4_types.specs.Types.{Ty, Tys, uint, byte, flag, text as string, ad
 use Rattle.arc4_types.specs.Values.{Val, Vals, number, truth, bytes, parts, no_values, a_value, vals_of, items_of}
 use Rattle.arc4_types.specs.Groups.{Part, form_of}
 use Rattle.arc4_types.specs.Encoding.{Codes, packed, row_coding, number_coding, flag_coding, text_coding, address_coding, tuple_coding, counted_coding, array_coding, coding, codings}
-use Rattle.arc4_types.specs.Reading.{◌>>=◌, Reads, mapped, taken, number_at, octet_at, one_flag, text_at, row_at, reading, readings, whole_of, decoding}
+use Rattle.arc4_types.specs.Reading.{◌>>=◌, Reads, mapped, taken, number_at, octet_at, one_flag, text_at, row_at, reading, readings, whole_of, decoding, Gives}
 use Rattle.arc4_types.proofs.Steps.{bind_ok, ok_is, done, mapped_ok, else_err, map_some, if_some, IsBytes}
 use Rattle.arc4_types.proofs.Bits.{octet_again, octet_takes, OctetTaken}
 use Rattle.arc4_types.proofs.Placing.{items-vals, row_counts}
@@ -131,9 +131,9 @@ array_takes f code read g bs v rest h e =
     let r = row_takes (replicate_agrees f code read n g) x.got.1 v rest d.fits x.then in
     let c : length r.vs ≡ n = row_counts (replicate n p) r.vs r.text r.coded ∙ length-replicate n p in
     let t : counted_coding p r.vs ≡ Some (to_be_bytes w16 n ++ r.text) =
-        ap (λ k. cond (ltb k 65536) (option_map (λ b. to_be_bytes w16 k ++ b) (row_coding (replicate k p) r.vs)) None) c
-        ∙ ap (λ z. cond z (option_map (λ b. to_be_bytes w16 n ++ b) (row_coding (replicate n p) r.vs)) None) (lt-ltb n 65536 d.small)
-        ∙ ap (option_map (λ b. to_be_bytes w16 n ++ b)) r.coded in
+    ap (λ k. cond (ltb k 65536) (option_map (λ b. to_be_bytes w16 k ++ b) (row_coding (replicate k p) r.vs)) None) c
+    ∙ ap (λ z. cond z (option_map (λ b. to_be_bytes w16 n ++ b) (row_coding (replicate n p) r.vs)) None) (lt-ltb n 65536 d.small)
+    ∙ ap (option_map (λ b. to_be_bytes w16 n ++ b)) r.coded in
     let s : bs ≡ (to_be_bytes w16 n ++ r.text) ++ rest = d.parts ∙ ap (λ (z : List ℕ). to_be_bytes w16 n ++ z) r.split ∙ sym (append_assoc (to_be_bytes w16 n) r.text rest) in
     subst (λ w. Taken (array_coding p) bs w rest) r.is (record { text = to_be_bytes w16 n ++ r.text; coded = ap (counted_coding p) (items-vals r.vs) ∙ t; parts = s })
 
@@ -188,3 +188,11 @@ encodes t v bs h e =
 -- an encoding has one value
 pub one_value : (t : Ty) (v w : Val) (b : List ℕ) → coding t v ≡ Some b → coding t w ≡ Some b → v ≡ w
 one_value t v w b p q = ok_is v w (sym (decodes t v b p) ∙ decodes t w b q)
+
+-- what a decoder answers, from what reading gives
+pub found : {X : Type 0} (view : X → Val) (t : Ty) (bs : List ℕ) (r : Result X AbiFault) → IsBytes bs → Gives view r (decoding t bs) → IfOk r (λ x. coding t (view x) ≡ Some bs)
+found view t bs (Ok x) h g = encodes t (view x) bs h g
+found view t bs (Err e) h g = tt
+
+pub only : {X : Type 0} (view : X → Val) (t : Ty) (bs : List ℕ) (r : Result X AbiFault) → Gives view r (decoding t bs) → (v : Val) → coding t v ≡ Some bs → Gives view r (Ok v)
+only view t bs r g v e = subst (λ (z : Result Val AbiFault). Gives view r z) (decodes t v bs e) g

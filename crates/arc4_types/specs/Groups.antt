@@ -71,9 +71,9 @@ groups covered [] = []
 groups (suc covered) (p ∷ ps) = groups covered ps
 groups zero (p ∷ ps) =
     by_form p.form
-      (octet (suc (bools_in (forms ps) 7)) ∷ groups (bools_in (forms ps) 7) ps)
-      (static p.code ∷ groups zero ps)
-      (dynamic p.code ∷ groups zero ps)
+    (octet (suc (bools_in (forms ps) 7)) ∷ groups (bools_in (forms ps) 7) ps)
+    (static p.code ∷ groups zero ps)
+    (dynamic p.code ∷ groups zero ps)
 
 -- the types of a row: one for each part, or one for all
 abbrev pub row_of : List Abi → ℕ → List Abi

@@ -208,3 +208,17 @@ fn whole(alloc: Global, ty: &Abi, bytes: &[u8]) -> Result<AbiValue, AbiFault>
     }
     Ok(value)
 }
+
+/// The value of the type that the bytes are an encoding of (ARC-4, "Encoding"). Each error but `Memory` is the first fault of reading the
+/// bytes from left to right: of a tuple or an array the parts of its head in order, then for each part of any size its offset
+/// against the place reached and its tail, and at the end the bytes left over.
+pub fn decode(alloc: Global, ty: &Abi, bytes: &[u8]) -> Result<AbiValue, AbiFault>
+    // What is read is the value that has the bytes for its encoding.
+    ensures found { IfOk result (λ v. coding (type_of ty.now) (value_of v) ≡ Some bytes.now) }
+    // Each encoding is read, unless memory runs out.
+    ensures only { (v : Val) → coding (type_of ty.now) v ≡ Some bytes.now → Gives value_of result (Ok v) }
+    // Which fault it is.
+    ensures exact { Gives value_of result (decoding (type_of ty.now) bytes.now) }
+{
+    whole(alloc, ty, bytes)
+}

@@ -92,7 +92,12 @@ fn placed_part(alloc: Global, ty: &Abi, values: &[AbiValue]) -> Result<Option<Pl
 /// The encodings of the parts of a row, each where it stands.
 #[cycle(code)]
 #[tactic(auto, using(crate::proofs::Placing::placed_more, crate::proofs::Placing::placed_none, crate::proofs::Placing::placed_all))]
-fn placed_row(alloc: Global, types: &[Abi], count: usize, values: &[AbiValue]) -> Result<Option<List<Placed>>, Memory>
+fn placed_row(
+    alloc: Global,
+    types: &[Abi],
+    count: usize,
+    values: &[AbiValue],
+) -> Result<Option<List<Placed>>, Memory>
     requires row { length (row_of types.now count) ≡ count }
     requires values { length values.now ≡ count }
     ensures { IfOk result (λ r. r ≡ placed (groups 0 (map (part_of coding) (row_of types.now count))) (map value_of values.now)) }
@@ -113,7 +118,12 @@ fn placed_row(alloc: Global, types: &[Abi], count: usize, values: &[AbiValue]) -
 /// The encoding of the parts of a row, where `types` has a type for each part, or one for all.
 #[cycle(code)]
 #[tactic(auto, using(crate::proofs::Placing::row_of_others))]
-fn coded_row(alloc: Global, types: &[Abi], count: usize, values: &[AbiValue]) -> Result<Option<Blob>, Memory>
+fn coded_row(
+    alloc: Global,
+    types: &[Abi],
+    count: usize,
+    values: &[AbiValue],
+) -> Result<Option<Blob>, Memory>
     requires { length (row_of types.now count) ≡ count }
     ensures { IfOk result (λ r. r ≡ row_coding (map (part_of coding) (row_of types.now count)) (map value_of values.now)) }
 {
@@ -128,7 +138,12 @@ fn coded_row(alloc: Global, types: &[Abi], count: usize, values: &[AbiValue]) ->
 
 /// The encoding of a tuple, or of an array of so many parts.
 #[cycle(code)]
-fn coded_tuple(alloc: Global, types: &[Abi], count: usize, value: &AbiValue) -> Result<Option<Blob>, Memory>
+fn coded_tuple(
+    alloc: Global,
+    types: &[Abi],
+    count: usize,
+    value: &AbiValue,
+) -> Result<Option<Blob>, Memory>
     requires { length (row_of types.now count) ≡ count }
     ensures { IfOk result (λ r. r ≡ tuple_coding (map (part_of coding) (row_of types.now count)) (value_of value.now)) }
 {

@@ -17,10 +17,13 @@ mod method;
 mod number;
 mod placed;
 mod row;
+#[cfg(test)]
+mod tests;
 
 pub use abi::{Abi, Abis};
 pub use abi_fault::AbiFault;
 pub use abi_value::{AbiValue, AbiValues};
-pub use laws::{encoding_is_injective, encodings_are_read, only_encodings_are_read};
+pub use decoding::decode;
 pub use encoding::encode;
+pub use laws::{encoding_is_injective, encodings_are_read, only_encodings_are_read};
 pub use method::{selector, signature};

@@ -1,0 +1,10 @@
+use Rattle.arc4_types.specs.Types.{type_of}
+use Rattle.arc4_types.specs.Values.{value_of}
+use Rattle.arc4_types.proofs.Whole.{found, only}
+use Rattle.arc4_types.proofs.decoding.decode.Goals as goal
+
+pub returns-clause-found : goal.returns-clause-found
+returns-clause-found c = found value_of (type_of c.args.ty.now) c.args.bytes.now c.whole.result c.type_inv.bytes c.whole.ensures
+
+pub returns-clause-only : goal.returns-clause-only
+returns-clause-only c = only value_of (type_of c.args.ty.now) c.args.bytes.now c.whole.result c.whole.ensures
