@@ -366,21 +366,25 @@ pub record RowTaken (ps : List (Part Codes)) (bs : List ℕ) (v : Val) (rest : L
   pub is : parts (vals_of vs) ≡ v
   pub split : bs ≡ text ++ rest
 
+-- a head and tails that were taken, as one encoding
+whole_text : (es : List Placed) (bs h left rest : List ℕ) → bs ≡ h ++ left → h ≡ heads (head_size es) es → left ≡ tails es ++ rest → bs ≡ (heads (head_size es) es ++ tails es) ++ rest
+whole_text es bs h left rest p q r = p ∙ ap (λ (z : List ℕ). z ++ left) q ∙ ap (λ (z : List ℕ). heads (head_size es) es ++ z) r ∙ sym (append_assoc (heads (head_size es) es) (tails es) rest)
+
+lengths : (bs h left : List ℕ) → bs ≡ h ++ left → length h + length left ≡ length bs
+lengths bs h left p = sym (ap length p ∙ length-append h left)
+
+row_of_tails : (ps : List (Part Codes)) (vs : List Val) (v : Val) (bs h left rest : List ℕ) → TailsTaken (groups 0 ps) vs (length h) h left rest → bs ≡ h ++ left → parts (vals_of vs) ≡ v → RowTaken ps bs v rest
+row_of_tails ps vs v bs h left rest t p q =
+    let s : length h ≡ head_size t.es = ap length t.head ∙ length-heads t.es (length h) in
+    let fit : offsets_fit (head_size t.es) t.es ≡ true = subst (λ k. offsets_fit k t.es ≡ true) s t.fit in
+    let j : joined t.es ≡ Some (heads (head_size t.es) t.es ++ tails t.es) = ap (λ b. cond b (some (heads (head_size t.es) t.es ++ tails t.es)) None) fit in
+    let g : h ≡ heads (head_size t.es) t.es = t.head ∙ ap (λ k. heads k t.es) s in
+    record { vs = vs; text = heads (head_size t.es) t.es ++ tails t.es; coded = ap (option_and_then joined) t.is ∙ j; is = q; split = whole_text t.es bs h left rest p g t.split }
+
 pub row_takes : {ps : List (Part Codes)} {qs : List (Part (Reads Val))} → Agree ps qs → (bs : List ℕ) (v : Val) (rest : List ℕ) → IsBytes bs → row_at qs bs ≡ Ok (v, rest) → RowTaken ps bs v rest
 row_takes {ps} {qs} a bs v rest f e =
     let x = bind_ok (head_at (groups 0 qs) bs) (λ h. mapped (λ vs. parts (vals_of vs)) (tails_at (length bs) (codes_in qs) h.0 h.1)) (v, rest) e in
     let m = mapped_ok (λ vs. parts (vals_of vs)) (tails_at (length bs) (codes_in qs) x.got.0 x.got.1) (v, rest) x.then in
     let h = head_takes (groups_alike a 0) bs x.got.0 x.got.1 f x.first in
-    let n : length h.head + length x.got.1 ≡ length bs = sym (ap length h.split ∙ length-append h.head x.got.1) in
-    let t = tails_takes h.tells (length bs) (length h.head) x.got.1 m.got rest h.fits n m.read in
-    let s : length h.head ≡ head_size t.es = ap length t.head ∙ length-heads t.es (length h.head) in
-    let fit : offsets_fit (head_size t.es) t.es ≡ true = subst (λ k. offsets_fit k t.es ≡ true) s t.fit in
-    let j : joined t.es ≡ Some (heads (head_size t.es) t.es ++ tails t.es) = ap (λ b. cond b (some (heads (head_size t.es) t.es ++ tails t.es)) None) fit in
-    let g : h.head ≡ heads (head_size t.es) t.es = t.head ∙ ap (λ k. heads k t.es) s in
-    record {
-      vs = m.got;
-      text = heads (head_size t.es) t.es ++ tails t.es;
-      coded = ap (option_and_then joined) t.is ∙ j;
-      is = m.is;
-      split = h.split ∙ ap (λ (z : List ℕ). z ++ x.got.1) g ∙ ap (λ (z : List ℕ). heads (head_size t.es) t.es ++ z) t.split ∙ sym (append_assoc (heads (head_size t.es) t.es) (tails t.es) rest);
-    }
+    let t = tails_takes h.tells (length bs) (length h.head) x.got.1 m.got rest h.fits (lengths bs h.head x.got.1 h.split) m.read in
+    row_of_tails ps m.got v bs h.head x.got.1 rest t h.split m.is
