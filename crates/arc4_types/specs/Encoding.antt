@@ -152,7 +152,7 @@ abbrev mutual
   codings no_types = []
   codings (a_type t ts) = record { form = form_of t; code = coding t } ∷ codings ts
 
--- what the command line's limit on byte values leaves of an encoding
+-- the encoding, where it has at most so many bytes
 abbrev pub within : ℕ → Option (List ℕ) → Option (List ℕ)
 within most None = None
 within most (Some b) = if nat_lt most (length b) then None else Some b

@@ -211,7 +211,8 @@ fn whole(alloc: Global, ty: &Abi, bytes: &[u8]) -> Result<AbiValue, AbiFault>
 
 /// The value of the type that the bytes are an encoding of (ARC-4, "Encoding"). Each error but `Memory` is the first fault of reading the
 /// bytes from left to right: of a tuple or an array the parts of its head in order, then for each part of any size its offset
-/// against the place reached and its tail, and at the end the bytes left over.
+/// against the place reached and its tail, and at the end the bytes left over. A `Uint` of another width than 8, 16 or 32 bits is read
+/// as one of 64.
 pub fn decode(alloc: Global, ty: &Abi, bytes: &[u8]) -> Result<AbiValue, AbiFault>
     // What is read is the value that has the bytes for its encoding.
     ensures found { IfOk result (λ v. coding (type_of ty.now) (value_of v) ≡ Some bytes.now) }

@@ -18,6 +18,7 @@ use puya_base::{Blob, List, Memory};
 use std::alloc::Global;
 use std::slice;
 
+/// The encoding of a bool alone.
 fn coded_flag(alloc: Global, value: &AbiValue) -> Result<Option<Blob>, Memory>
     ensures { IfOk result (λ r. r ≡ flag_coding (value_of value.now)) }
 {
@@ -40,6 +41,7 @@ fn counted(alloc: Global, count: usize, bytes: &[u8]) -> Result<Option<Blob>, Me
     Ok(Some(out))
 }
 
+/// The encoding of a string, or of an array of `byte`.
 fn coded_text(alloc: Global, value: &AbiValue) -> Result<Option<Blob>, Memory>
     ensures { IfOk result (λ r. r ≡ text_coding (value_of value.now)) }
 {
@@ -49,6 +51,7 @@ fn coded_text(alloc: Global, value: &AbiValue) -> Result<Option<Blob>, Memory>
     }
 }
 
+/// The encoding of an address.
 fn coded_address(alloc: Global, value: &AbiValue) -> Result<Option<Blob>, Memory>
     ensures { IfOk result (λ r. r ≡ address_coding (value_of value.now)) }
 {
@@ -193,7 +196,8 @@ fn coded(alloc: Global, ty: &Abi, value: &AbiValue) -> Result<Option<Blob>, Memo
     }
 }
 
-/// The encoding of a value (ARC-4, "Encoding"). None exactly where the value has no encoding of at most 4096 bytes. The error is want of memory.
+/// The encoding of a value of the type (ARC-4, "Encoding"). None exactly where the value has no encoding of at most 4096 bytes, as
+/// where it is no value of the type. A `Uint` of another width than 8, 16 or 32 bits is written as one of 64. The error is want of memory.
 pub fn encode(alloc: Global, ty: &Abi, value: &AbiValue) -> Result<Option<Blob>, Memory>
     ensures { IfOk result (λ r. r ≡ within 4096 (coding (type_of ty.now) (value_of value.now))) }
 {
