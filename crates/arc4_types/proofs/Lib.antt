@@ -1,0 +1,14 @@
+pub mod Offsets
+pub mod Steps
+pub mod Bits
+pub mod Runs
+pub mod Packing
+pub mod Heads
+pub mod Placing
+pub mod Equations
+pub mod Coding
+pub mod Unpacking
+pub mod Told
+pub mod Numbers
+pub mod Good
+pub mod Whole
