@@ -1,0 +1,14 @@
+//! Typed trees of contracts: what they mean, and what their code may weigh, cost and need.
+#![tactic(auto)]
+
+mod contract;
+mod expression;
+mod prim;
+mod statement;
+mod ty;
+
+pub use contract::{Contract, Func, Funcs};
+pub use expression::{Expr, ExprKind, Exprs, Index, Order};
+pub use prim::Prim;
+pub use statement::{Arm, Arms, MatchArm, MatchArms, Stmt, StmtKind, Stmts, Target, Targets};
+pub use ty::{Ty, Tys};
