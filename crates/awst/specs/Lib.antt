@@ -1,0 +1,9 @@
+pub mod Types
+pub mod Values
+pub mod Forms
+pub mod Table
+pub mod Tree
+pub mod Meaning
+pub mod Places
+pub mod Plain
+pub mod Prescribed
