@@ -3,3 +3,4 @@ pub mod Seen
 pub mod Steps
 pub mod Keeping
 pub mod Moments
+pub mod Lasting
