@@ -7,3 +7,6 @@ pub mod Meaning
 pub mod Places
 pub mod Plain
 pub mod Prescribed
+pub mod Paths
+pub mod Shapes
+pub mod Sound
