@@ -1,1 +1,4 @@
+pub mod Capped
+pub mod Equations
+pub mod Waits
 pub mod Keeps

@@ -1,3 +1,4 @@
+pub mod Capped
 pub mod Types
 pub mod Values
 pub mod Forms
@@ -6,6 +7,7 @@ pub mod Tree
 pub mod Meaning
 pub mod Places
 pub mod Plain
+pub mod Functions
 pub mod Prescribed
 pub mod Paths
 pub mod Shapes

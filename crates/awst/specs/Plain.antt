@@ -6,25 +6,25 @@ use Rattle.awst.specs.declared.prim.Prim.{Prim}
 use Rattle.awst.specs.declared.expression.Expr.{Expr}
 use Rattle.awst.specs.declared.expression.ExprKind.{ExprKind}
 use Rattle.awst.specs.declared.expression.ExprKind.TheOpen.{ExprKind-F, Index-F, Expr-F}
-use Rattle.awst.specs.declared.expression.ExprKind.TheFolds.{fold-Expr}
+use Rattle.awst.specs.declared.expression.ExprKind.TheFolds.{fold-Expr, fold-ExprKind, fold-Index}
+use Rattle.awst.specs.declared.expression.Index.{Index}
 use Rattle.awst.specs.declared.statement.Target.{Target}
 use Rattle.awst.specs.declared.statement.Target.TheVariants as target
 use Rattle.awst.specs.declared.statement.Stmt.{Stmt}
 use Rattle.awst.specs.declared.statement.StmtKind.TheOpen.{StmtKind-F, Stmt-F, Arm-F, MatchArm-F}
 use Rattle.awst.specs.declared.statement.StmtKind.TheFolds.{fold-Stmt}
-use Rattle.awst.specs.declared.contract.Func.{Func}
 use Rattle.awst.specs.Types.{ValueType, uint64, bool, scalar_count, type_of}
 use Rattle.awst.specs.Values.{number, flag, string}
-use Rattle.awst.specs.Table.{Own, own_number, own_flag, own_data, own_local, own_tuple, own_item, own_element, own_prim, own_choice, own_call, own_assign, own_effect, own_assert, own_if, own_while, own_range, own_each, own_leave, own_return, own_fail, own_match, own_function, need_of_places}
+use Rattle.awst.specs.Table.{Own, own_number, own_flag, own_data, own_local, own_tuple, own_item, own_element, own_prim, own_choice, own_call, own_assign, own_effect, own_assert, own_if, own_while, own_range, own_each, own_leave, own_return, own_fail, own_match}
 use Rattle.awst.specs.Tree.{Operation, by, pack, part, element, Node, Ex, ex, Form, constant, variable, strict, both, one_of, choose, call, Exs, no_exprs, an_expr, Destination, to_variable, Head, St, st, Deed, assign, effect, assert, branch, loop, count, each, break, continue, give_back, reject, pick, Picks, no_picks, a_pick, Sts, no_stmts, a_stmt, node_of, exs_of, sts_of}
-use Rattle.awst.specs.Places.{scalars_of, places_in}
-use Rattle.awst.specs.Meaning.{Function}
+use Rattle.awst.specs.Places.{scalars_of}
 
 -- ---- expressions
 
--- an expression that waits for its place and its type
-abbrev pub Typeless : Type 0
-Typeless = Place → ValueType → Ex
+-- an expression but for its place and its type: its form, and its amounts where its type has so many scalars
+pub record Bare : Type 0 where
+  pub form : Form
+  pub own : ℕ → Own
 
 pub data Which : Type 0 where
   fixed : ℕ → Which
@@ -34,40 +34,52 @@ abbrev pub total_of : List Ex → ℕ
 total_of [] = 0
 total_of (e ∷ es) = scalars_of e + total_of es
 
+abbrev pub bare : Form → (ℕ → Own) → Bare
+bare form own = record { form = form; own = own }
+
 abbrev pub made : Place → ValueType → Own → Form → Ex
 made place ty own form = ex (record { place = place; ty = ty; own = own }) form
 
-abbrev pub item_form : Ex → Which → Form
-item_form e (fixed i) = strict (part i) (an_expr e no_exprs)
-item_form e (indexed i) = strict element (an_expr e (an_expr i no_exprs))
-
-abbrev pub own_of_item : Which → ℕ → Own
-own_of_item (fixed i) s = own_item s
-own_of_item (indexed i) s = own_element
+abbrev pub item : Ex → Which → Bare
+item e (fixed i) = bare (strict (part i) (an_expr e no_exprs)) own_item
+item e (indexed i) = bare (strict element (an_expr e (an_expr i no_exprs))) (λ s. own_element)
 
 -- one layer, with the plain tree of each part in its place
-abbrev pub kind_layer : ExprKind-F Typeless Which Ex → Typeless
-kind_layer (ExprKind-F.Int n) p t = made p t (own_number n) (constant (number n))
-kind_layer (ExprKind-F.Flag b) p t = made p t own_flag (constant (flag b))
-kind_layer (ExprKind-F.Data b) p t = made p t (own_data (length b)) (constant (string b))
-kind_layer (ExprKind-F.Local x) p t = made p t (own_local (scalar_count t)) (variable x)
-kind_layer (ExprKind-F.Prim q es) p t = made p t (own_prim q (scalar_count t) (length es)) (strict (by q) (exs_of es))
-kind_layer (ExprKind-F.And a b) p t = made p t (own_choice (scalar_count t)) (both a b)
-kind_layer (ExprKind-F.Or a b) p t = made p t (own_choice (scalar_count t)) (one_of a b)
-kind_layer (ExprKind-F.Choose c a b) p t = made p t (own_choice (scalar_count t)) (choose c a b)
-kind_layer (ExprKind-F.Tuple es) p t = made p t (own_tuple (scalar_count t)) (strict pack (exs_of es))
-kind_layer (ExprKind-F.Item e which) p t = made p t (own_of_item which (scalar_count t)) (item_form e which)
-kind_layer (ExprKind-F.Call f es order) p t = made p t (own_call (total_of es + scalar_count t)) (call f (exs_of es) order)
+abbrev pub kind_layer : ExprKind-F Bare Which Ex → Bare
+kind_layer (ExprKind-F.Int n) = bare (constant (number n)) (λ s. own_number n)
+kind_layer (ExprKind-F.Flag b) = bare (constant (flag b)) (λ s. own_flag)
+kind_layer (ExprKind-F.Data b) = bare (constant (string b)) (λ s. own_data (length b))
+kind_layer (ExprKind-F.Local x) = bare (variable x) own_local
+kind_layer (ExprKind-F.Prim q es) = bare (strict (by q) (exs_of es)) (λ s. own_prim q s (length es))
+kind_layer (ExprKind-F.And a b) = bare (both a b) own_choice
+kind_layer (ExprKind-F.Or a b) = bare (one_of a b) own_choice
+kind_layer (ExprKind-F.Choose c a b) = bare (choose c a b) own_choice
+kind_layer (ExprKind-F.Tuple es) = bare (strict pack (exs_of es)) own_tuple
+kind_layer (ExprKind-F.Item e which) = item e which
+kind_layer (ExprKind-F.Call f es order) = bare (call f (exs_of es) order) (λ s. own_call (total_of es + s))
 
-abbrev pub index_layer : Index-F Typeless Which Ex → Which
+abbrev pub index_layer : Index-F Bare Which Ex → Which
 index_layer (Index-F.Fixed i) = fixed i
 index_layer (Index-F.At e) = indexed e
 
-abbrev pub expr_layer : Expr-F Typeless Which Ex → Ex
-expr_layer e = e.kind e.place (type_of e.ty)
+-- with its place and its type
+abbrev pub typed : Place → ValueType → Bare → Ex
+typed place ty b = made place ty (b.own (scalar_count ty)) b.form
+
+abbrev pub expr_layer : Expr-F Bare Which Ex → Ex
+expr_layer e = typed e.place (type_of e.ty) e.kind
 
 abbrev pub tree_of : Expr → Ex
-tree_of = fold-Expr Typeless Which Ex kind_layer index_layer expr_layer
+tree_of = fold-Expr Bare Which Ex kind_layer index_layer expr_layer
+
+abbrev pub bare_of : ExprKind → Bare
+bare_of = fold-ExprKind Bare Which Ex kind_layer index_layer expr_layer
+
+abbrev pub which_of : Index → Which
+which_of = fold-Index Bare Which Ex kind_layer index_layer expr_layer
+
+abbrev pub trees_of : List Expr → Exs
+trees_of es = exs_of (map tree_of es)
 
 -- ---- statements
 
@@ -209,16 +221,3 @@ pick_layer a = record { literal = a.literal; body = a.body }
 abbrev pub statement_of : Stmt → Statement
 statement_of = fold-Stmt (Place → Statement) PlainArm PlainPick Statement stmt_layer arm_layer pick_layer placed_layer
 
--- ---- functions
-
-abbrev pub scope_of : Func → Scope
-scope_of f = map type_of (f.params ++ f.locals)
-
-abbrev pub body_of : Func → Sts
-body_of f = all_plain (scope_of f) 0 (map statement_of f.body)
-
-abbrev pub places_of : Func → ℕ
-places_of f = places_in (scope_of f) (type_of f.result) (body_of f)
-
-abbrev pub function_of : Func → Function
-function_of f = record { locals = length f.locals; price = own_function (places_of f); need = need_of_places (places_of f); body = body_of f }

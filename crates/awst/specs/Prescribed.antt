@@ -11,7 +11,7 @@ use Rattle.awst.specs.declared.contract.Contract.{Contract}
 use Rattle.awst.specs.Values.{Val, number, flag, string, nothing, tuple}
 use Rattle.awst.specs.Table.{entry_amount, init_amount, entry_places, need_of_places}
 use Rattle.awst.specs.Meaning.{Function, Program, need_at, called}
-use Rattle.awst.specs.Plain.{function_of}
+use Rattle.awst.specs.Functions.{function_of}
 
 -- a program approves where it gives a number that is not 0, or True
 abbrev pub is_accepted : Val → Bool

@@ -6,7 +6,8 @@ use Rattle.awst.specs.declared.contract.Contract.{Contract}
 use Rattle.awst.specs.Types.{ValueType, uint64, bool, bytes, text, account, nothing, tuple, Types, no_types, a_type, types_of, type_of, is_kept}
 use Rattle.awst.specs.Values.{Val, number, flag, string}
 use Rattle.awst.specs.Tree.{Operation, by, pack, part, element, Node, Ex, ex, Form, constant, variable, strict, both, one_of, choose, call, Exs, no_exprs, an_expr, Destination, to_variable, Head, St, st, Deed, assign, effect, assert, branch, loop, count, each, break, continue, give_back, reject, pick, Picks, no_picks, a_pick, Sts, no_stmts, a_stmt, node_of}
-use Rattle.awst.specs.Plain.{Scope, scope_of, body_of}
+use Rattle.awst.specs.Plain.{Scope}
+use Rattle.awst.specs.Functions.{scope_of, body_of}
 use Rattle.awst.specs.Paths.{sts_moves, ReadsAssigned, NeverEnds}
 use Rattle.awst.specs.Shapes.{Fits, shape_of}
 

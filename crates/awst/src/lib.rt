@@ -4,6 +4,7 @@
 mod contract;
 mod expression;
 mod laws;
+mod places;
 mod prim;
 mod statement;
 mod ty;
