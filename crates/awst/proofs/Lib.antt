@@ -1,4 +1,5 @@
 pub mod Capped
 pub mod Equations
-pub mod Waits
+pub mod Waiting
+pub mod Counting
 pub mod Keeps

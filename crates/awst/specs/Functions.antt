@@ -1,5 +1,5 @@
 -- Functions as plain data: their variables, their bodies, and what they pay and need.
-use Rattle.std.specs.Prelude.{ℕ, map, List, [], ◌∷◌, ◌++◌, length, Option, Some, None}
+use Rattle.std.specs.Prelude.{ℕ, ◌+◌, map, List, [], ◌∷◌, ◌++◌, length, Option, Some, None}
 use Rattle.puya_base.specs.declared.source.Place.{Place}
 use Rattle.awst.specs.declared.expression.Expr.{Expr}
 use Rattle.awst.specs.declared.statement.Stmt.{Stmt}

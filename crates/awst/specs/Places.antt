@@ -1,6 +1,6 @@
 -- How many places a function's code may hold at level 0, and what it needs on the stack.
 use Rattle.std.specs.Prelude.{ℕ, zero, suc, ◌+◌, ◌-◌, ◌*◌, ◌^◌, max, min, List, [], ◌∷◌, ◌++◌, Option, Some, None}
-use Rattle.awst.specs.Types.{ValueType, scalar_count}
+use Rattle.awst.specs.Types.{ValueType, scalar_count, scalar_total, types_of}
 use Rattle.awst.specs.Table.{places_of_for}
 use Rattle.awst.specs.Tree.{Node, Ex, ex, Form, constant, variable, strict, both, one_of, choose, call, Exs, no_exprs, an_expr, node_of}
 
@@ -56,10 +56,6 @@ with_for l = record l { fors = 1 + l.fors }
 abbrev pub with_literals : ℕ → Load → Load
 with_literals n l = record l { literals = max n l.literals }
 
-abbrev pub total_scalars : List ValueType → ℕ
-total_scalars [] = 0
-total_scalars (t ∷ ts) = scalar_count t + total_scalars ts
-
 -- a place for each scalar of the variables, three for each `for`, and the most that wait or are returned
 abbrev pub places_with : List ValueType → ValueType → Load → ℕ
-places_with variables result load = total_scalars variables + places_of_for * load.fors + max (scalar_count result) load.wait
+places_with variables result load = scalar_total (types_of variables) + places_of_for * load.fors + max (scalar_count result) load.wait

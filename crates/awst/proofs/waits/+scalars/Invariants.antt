@@ -1,7 +1,7 @@
 use Rattle.std.proofs.Common.{◌≡◌, ◌+◌, map, drop}
 use Rattle.awst.specs.Types.{scalar_total, types_of, type_of}
 use Rattle.awst.specs.Capped.{capped}
-use Rattle.awst.proofs.places.+scalars.Given as goal
+use Rattle.awst.proofs.waits.+scalars.Given as goal
 
 abbrev pub invariant-total_scalars-loop-part : goal.invariant-total_scalars-loop-part
 invariant-total_scalars-loop-part l =

@@ -2,7 +2,7 @@ use Rattle.std.proofs.Common.{◌≡◌, max, drop}
 use Rattle.awst.specs.Capped.{capped}
 use Rattle.awst.specs.Places.{parts_wait}
 use Rattle.awst.specs.Plain.{trees_of}
-use Rattle.awst.proofs.places.+wait.Given as goal
+use Rattle.awst.proofs.waits.+wait.Given as goal
 
 abbrev pub invariant-parts_wait-loop-e : goal.invariant-parts_wait-loop-e
 invariant-parts_wait-loop-e l =

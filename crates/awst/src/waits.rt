@@ -1,4 +1,4 @@
-//! How many places a function's code may hold, and what it needs on the stack.
+//! The most places that wait while an expression is evaluated.
 
 ghost use Rattle.std.specs.Prelude.{◌≡◌, ℕ, ◌+◌, map, max};
 ghost use Rattle.awst.specs.Types.{scalar_count, scalar_total, types_of, type_of};
@@ -24,7 +24,7 @@ pub(crate) fn scalars(ty: &Ty) -> u64
 }
 
 #[cycle(scalars)]
-fn total_scalars(parts: &[Ty]) -> u64
+pub(crate) fn total_scalars(parts: &[Ty]) -> u64
     ensures { result ≡ capped (scalar_total (types_of (map type_of parts.now))) }
 {
     let mut total: u64 = 0;
@@ -35,7 +35,7 @@ fn total_scalars(parts: &[Ty]) -> u64
 }
 
 /// How many places a form holds besides the values of its parts.
-fn prim_places(prim: Prim) -> u64
+pub(crate) fn prim_places(prim: Prim) -> u64
     ensures { (s parts : ℕ) → result ≡ (own_prim prim s parts).places }
 {
     match prim {
@@ -57,14 +57,14 @@ fn own_places(kind: &ExprKind) -> u64
 
 /// What one part of an expression asks for.
 #[derive(Clone, Copy)]
-struct Part {
-    scalars: u64,
-    wait: u64,
+pub(crate) struct Part {
+    pub(crate) scalars: u64,
+    pub(crate) wait: u64,
 }
 
 /// The most places that wait while an expression is evaluated.
 #[cycle(wait)]
-fn wait_of(e: &Expr) -> u64
+pub(crate) fn wait_of(e: &Expr) -> u64
     ensures { result ≡ capped (wait (tree_of e.now)) }
 {
     let own = own_places(&e.kind);
@@ -73,7 +73,7 @@ fn wait_of(e: &Expr) -> u64
 }
 
 #[cycle(wait)]
-fn asked(e: &Expr) -> Part
+pub(crate) fn asked(e: &Expr) -> Part
     ensures scalars { result.scalars ≡ capped (scalars_of (tree_of e.now)) }
     ensures wait { result.wait ≡ capped (wait (tree_of e.now)) }
 {
@@ -122,7 +122,7 @@ fn one_wait(a: Part, own: u64) -> u64
     a.wait.max(a.scalars.saturating_add(own))
 }
 
-fn two_wait(a: Part, b: Part, own: u64) -> u64
+pub(crate) fn two_wait(a: Part, b: Part, own: u64) -> u64
     ensures { result ≡ max a.wait (max (capped (a.scalars + b.wait)) (capped (a.scalars + b.scalars + own))) }
 {
     let both = a.scalars.saturating_add(b.scalars).saturating_add(own);
