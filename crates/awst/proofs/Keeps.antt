@@ -17,7 +17,7 @@ use Rattle.awst.specs.Forms.{Action, computes, logs_parts, action_of, computed, 
 use Rattle.awst.specs.Table.{entry_amount}
 use Rattle.awst.specs.Tree.{Operation, by, pack, part, element, Node, Ex, ex, Form, constant, variable, strict, both, one_of, choose, call, Exs, no_exprs, an_expr, Head, St, st, Deed, assign, effect, assert, branch, loop, count, each, break, continue, give_back, reject, pick, Picks, no_picks, a_pick, Sts, no_stmts, a_stmt}
 use Rattle.awst.specs.Meaning.{Env, Setting, act_on, operate, arguments, value_of, form_value, values_of, Flow, On, Back, Broke, Continued, go_on, Turn, over, begins, turned, next_turn, turns, turn_while, range_turn, item_turn, turn_of_range, turn_of_items, items_of, number_in, put_all, is_literal, optional_value, does, deed_does, picked, all_do, Function, Program, need_at, returned, runs_function, called}
-use Rattle.awst.specs.Prescribed.{program_of, run_first, run_approval, run_clear, entry_price, approval_entry, clear_entry, entry_run, prescribed, is_accepted}
+use Rattle.awst.specs.Prescribed.{PlainContract, plain_contract, program_of, run_first, run_approval, run_clear, entry_price, approval_entry, clear_entry, entry_run, prescribed, is_accepted}
 
 act_on_keeps : (k : ℕ) (transaction : Call) (line : ℕ) (action : Action) (vs : List Val) → Keeps k (act_on transaction line action vs) (act_on transaction line action vs)
 act_on_keeps k transaction line (computes pure) vs = lift_keeps k (computed transaction pure vs)
@@ -152,19 +152,19 @@ module _ (k n n' : ℕ) (le : n ≤ n') (program : Program) where
   clear_keeps None = give_keeps k (flag true)
   clear_keeps (Some f) = called_keeps k program n n' le f []
 
-  entry_of_approval : (contract : Contract) → Keeps k (approval_entry contract program n) (approval_entry contract program n')
+  entry_of_approval : (contract : PlainContract) → Keeps k (approval_entry contract program n) (approval_entry contract program n')
   entry_of_approval contract = inside_keeps k (need_at program) 0 _ _ (pay_keeps k (entry_price contract.init) _ _ (bind_keeps k _ _ _ _ (first_keeps program.transaction.creating contract.init) (λ _. approval_keeps contract.approval)))
 
-  entry_of_clear : (contract : Contract) → Keeps k (clear_entry contract program n) (clear_entry contract program n')
+  entry_of_clear : (contract : PlainContract) → Keeps k (clear_entry contract program n) (clear_entry contract program n')
   entry_of_clear contract = inside_keeps k (need_at program) 0 _ _ (pay_keeps k entry_amount _ _ (clear_keeps contract.clear))
 
 chosen_keeps : {A : Type 0} (k : ℕ) (b : Bool) (one one' other other' : Run A) → Keeps k one one' → Keeps k other other' → Keeps k (if b then one else other) (if b then one' else other')
 chosen_keeps k true one one' other other' h g = h
 chosen_keeps k false one one' other other' h g = g
 
-entry_keeps : (k n n' : ℕ) → n ≤ n' → (contract : Contract) (c : Call) → Keeps k (entry_run contract c n) (entry_run contract c n')
+entry_keeps : (k n n' : ℕ) → n ≤ n' → (contract : PlainContract) (c : Call) → Keeps k (entry_run contract c n) (entry_run contract c n')
 entry_keeps k n n' le contract c =
     chosen_keeps k (c.on_completion == clear_state) _ _ _ _ (entry_of_clear k n n' le (program_of contract c) contract) (entry_of_approval k n n' le (program_of contract c) contract)
 
 pub lasts : (contract : Contract) (c : Call) (ledger : LedgerState) → Lasts (prescribed contract c ledger)
-lasts contract c ledger = lasting is_accepted (entry_run contract c) (nothing_seen ledger) (λ k n n' le. entry_keeps k n n' le contract c)
+lasts contract c ledger = lasting is_accepted (entry_run (plain_contract contract) c) (nothing_seen ledger) (λ k n n' le. entry_keeps k n n' le (plain_contract contract) c)

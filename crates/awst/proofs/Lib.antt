@@ -3,3 +3,4 @@ pub mod Equations
 pub mod Waiting
 pub mod Counting
 pub mod Keeps
+pub mod WorkedRows

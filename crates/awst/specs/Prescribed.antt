@@ -19,8 +19,18 @@ is_accepted (number n) = not (n == 0)
 is_accepted (flag b) = b
 is_accepted _ = false
 
-abbrev pub program_of : Contract → Call → Program
-program_of contract call = record { transaction = call; entry_need = need_of_places entry_places; functions = map function_of contract.funcs }
+-- a contract as plain data
+pub record PlainContract : Type 0 where
+  pub functions : List Function
+  pub approval : Option ℕ
+  pub clear : Option ℕ
+  pub init : Option ℕ
+
+abbrev pub plain_contract : Contract → PlainContract
+plain_contract contract = record { functions = map function_of contract.funcs; approval = contract.approval; clear = contract.clear; init = contract.init }
+
+abbrev pub program_of : PlainContract → Call → Program
+program_of contract call = record { transaction = call; entry_need = need_of_places entry_places; functions = contract.functions }
 
 -- `__init__` runs first in a creating call
 abbrev pub run_first : Program → ℕ → Bool → Option ℕ → Run Val
@@ -42,19 +52,22 @@ entry_price None = entry_amount
 entry_price (Some init) = entry_amount + init_amount
 
 -- the entry is open, and pays for itself, before anything runs
-abbrev pub approval_entry : Contract → Program → ℕ → Run Val
+abbrev pub approval_entry : PlainContract → Program → ℕ → Run Val
 approval_entry contract program n =
     inside (need_at program) 0 (pay (entry_price contract.init)
     (bind (run_first program n program.transaction.creating contract.init) (λ _. run_approval program n contract.approval)))
 
-abbrev pub clear_entry : Contract → Program → ℕ → Run Val
+abbrev pub clear_entry : PlainContract → Program → ℕ → Run Val
 clear_entry contract program n = inside (need_at program) 0 (pay entry_amount (run_clear program n contract.clear))
 
 -- on completion 3 means the clear state program, any other number the approval program
-abbrev pub entry_run : Contract → Call → ℕ → Run Val
+abbrev pub entry_run : PlainContract → Call → ℕ → Run Val
 entry_run contract call n =
     if call.on_completion == clear_state then clear_entry contract (program_of contract call) n else approval_entry contract (program_of contract call) n
 
 -- approved with a ledger, rejected, or going on past the bound; with the price, the need and the marks so far
+abbrev pub prescribed_by : PlainContract → Call → LedgerState → Meaning
+prescribed_by contract call ledger n = moment_of is_accepted (entry_run contract call n (begin (nothing_seen ledger) n))
+
 abbrev pub prescribed : Contract → Call → LedgerState → Meaning
-prescribed contract call ledger n = moment_of is_accepted (entry_run contract call n (begin (nothing_seen ledger) n))
+prescribed contract = prescribed_by (plain_contract contract)
