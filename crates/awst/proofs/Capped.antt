@@ -1,5 +1,5 @@
 -- Sums and greatest values of counts that stand still at the end of their type.
-use Rattle.std.proofs.Common.{◌≡◌, ℕ, ◌+◌, ◌-◌, ◌*◌, ◌^◌, ◌≤◌, ◌<◌, min, max, refl, arith}
+use Rattle.std.proofs.Common.{◌≡◌, ℕ, ◌+◌, ◌^◌, ◌<◌, max, arith}
 use Rattle.awst.specs.Capped.{capped}
 
 pub capped_small : (n : ℕ) → n < 2 ^ 64 → capped n ≡ n

@@ -1,14 +1,12 @@
 -- Counts of places, with counts that stand still.
-use Rattle.std.proofs.Common.{◌≡◌, ℕ, ◌+◌, ◌-◌, ◌*◌, ◌^◌, ◌≤◌, ◌∙◌, min, max, List, [], ◌∷◌, ◌++◌, map, length, Option, Some, refl, sym, ap, subst, arith}
+use Rattle.std.proofs.Common.{◌≡◌, ℕ, ◌+◌, ◌*◌, ◌∙◌, max, List, [], ◌∷◌, ◌++◌, map, length, Some, refl, ap, arith}
 use Rattle.awst.specs.declared.ty.Ty.{Ty}
 use Rattle.awst.specs.declared.prim.Prim.{Prim}
 use Rattle.awst.specs.declared.statement.Target.{Target}
 use Rattle.awst.specs.declared.statement.Target.TheVariants as target
-use Rattle.awst.specs.Types.{type_of, types_of, scalar_count, scalar_total}
+use Rattle.awst.specs.Types.{type_of, types_of, scalar_total}
 use Rattle.awst.specs.Capped.{capped}
-use Rattle.awst.specs.Table.{own_prim}
 use Rattle.awst.specs.Tree.{Ex, to_variable}
-use Rattle.awst.specs.Places.{wait, scalars_of}
 use Rattle.awst.specs.Plain.{updated, assigned_value, destination}
 use Rattle.awst.specs.Functions.{no_place}
 

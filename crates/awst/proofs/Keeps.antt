@@ -1,21 +1,21 @@
 -- What a contract prescribes lasts.
-use Rattle.std.proofs.Common.{◌≡◌, ℕ, zero, suc, ◌+◌, ◌≤◌, List, [], ◌∷◌, ◌++◌, map, Bool, true, false, if◌then◌else◌, ◌==◌, Option, Some, None, refl, sym, ap, ◌∙◌, subst, arith, length, replicate}
+use Rattle.std.proofs.Common.{◌≡◌, ℕ, zero, suc, ◌≤◌, List, [], ◌∷◌, ◌++◌, Bool, true, false, if◌then◌else◌, ◌==◌, Option, Some, None, refl, subst, arith, replicate}
 use Rattle.std.specs.Prelude.{slice_get, nat_lt, ⊤}
 use Rattle.avm_state.specs.declared.call.Call.{Call}
 use Rattle.avm_state.specs.Calls.{clear_state}
 use Rattle.avm_state.specs.LedgerState.{LedgerState}
 use Rattle.avm_state.specs.Steps.{add_log_step}
 use Rattle.runs.specs.Marks.{logs}
-use Rattle.runs.specs.Seen.{Grows, nothing_seen}
-use Rattle.runs.specs.Steps.{Run, Result, Gives, Fails, Going, bind, give, fail, lift, either, pay, tick, act, inside, world_of, begin}
-use Rattle.runs.specs.Moments.{Outcome, Moment, moment_of, Lasts}
-use Rattle.runs.specs.Keeping.{Keeps, Later, more, give_keeps, fail_keeps, lift_keeps, bind_keeps, either_keeps, pay_keeps, tick_keeps, act_keeps, inside_keeps, going_keeps, same}
+use Rattle.runs.specs.Seen.{nothing_seen}
+use Rattle.runs.specs.Steps.{Run}
+use Rattle.runs.specs.Moments.{Lasts}
+use Rattle.runs.specs.Keeping.{Keeps, give_keeps, fail_keeps, lift_keeps, bind_keeps, either_keeps, pay_keeps, tick_keeps, act_keeps, inside_keeps, going_keeps, same}
 use Rattle.runs.specs.Lasting.{lasting}
 use Rattle.awst.specs.declared.contract.Contract.{Contract}
 use Rattle.awst.specs.Values.{Val, flag, nothing, number, holds, vals_of, parts_of, tuple}
 use Rattle.awst.specs.Forms.{Action, computes, logs_parts, action_of, computed, log_bytes}
 use Rattle.awst.specs.Table.{entry_amount}
-use Rattle.awst.specs.Tree.{Operation, by, pack, part, element, Node, Ex, ex, Form, constant, variable, strict, both, one_of, choose, call, Exs, no_exprs, an_expr, Head, St, st, Deed, assign, effect, assert, branch, loop, count, each, break, continue, give_back, reject, pick, Picks, no_picks, a_pick, Sts, no_stmts, a_stmt}
+use Rattle.awst.specs.Tree.{Operation, by, pack, part, element, Ex, ex, Form, constant, variable, strict, both, one_of, choose, call, Exs, no_exprs, an_expr, St, st, Deed, assign, effect, assert, branch, loop, count, each, break, continue, give_back, reject, pick, Picks, no_picks, a_pick, Sts, no_stmts, a_stmt}
 use Rattle.awst.specs.Meaning.{Env, Setting, act_on, operate, arguments, value_of, form_value, values_of, Flow, On, Back, Broke, Continued, go_on, Turn, over, begins, turned, next_turn, turns, turn_while, range_turn, item_turn, turn_of_range, turn_of_items, items_of, number_in, put_all, is_literal, optional_value, does, deed_does, picked, all_do, Function, Program, need_at, returned, runs_function, called}
 use Rattle.awst.specs.Prescribed.{PlainContract, plain_contract, program_of, run_first, run_approval, run_clear, entry_price, approval_entry, clear_entry, entry_run, prescribed, is_accepted}
 

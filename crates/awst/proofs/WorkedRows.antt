@@ -1,20 +1,19 @@
 -- The meaning, computed on small contracts.
-use Rattle.std.proofs.Common.{◌≡◌, ℕ, ◌+◌, Bool, true, false, List, [], ◌∷◌, ◌++◌, length, replicate, Option, Some, None, refl}
+use Rattle.std.proofs.Common.{◌≡◌, ℕ, Bool, true, false, List, [], ◌∷◌, length, replicate, Some, None, refl}
 use Rattle.puya_base.specs.declared.source.Place.{Place}
 use Rattle.avm_state.specs.declared.call.Call.{Call}
 use Rattle.avm_state.specs.LedgerState.{LedgerState, no_entries}
 use Rattle.avm_ops.specs.Table.{row_of, table}
 use Rattle.runs.specs.Marks.{Mark, logs}
-use Rattle.runs.specs.Seen.{Seen}
-use Rattle.runs.specs.Moments.{Outcome, approved, rejected, Moment, Meaning}
+use Rattle.runs.specs.Moments.{approved, rejected, Meaning}
 use Rattle.awst.specs.declared.prim.Prim.{Prim}
 use Rattle.awst.specs.declared.prim.Prim.TheVariants as prim
 use Rattle.awst.specs.Types.{ValueType, uint64, bool, bytes, nothing, scalar_count, tuple, types_of}
 use Rattle.awst.specs.Values.{number, flag, string}
-use Rattle.awst.specs.Table.{Own, own_number, own_flag, own_data, own_local, own_tuple, own_prim, own_choice, own_call, own_assign, own_effect, own_assert, own_if, own_while, own_range, own_leave, own_return, own_function, need_of_places}
-use Rattle.awst.specs.Tree.{by, pack, Ex, constant, variable, strict, both, one_of, choose, call, exs_of, to_variable, St, assign, effect, assert, branch, loop, count, break, give_back, sts_of}
+use Rattle.awst.specs.Table.{own_number, own_flag, own_data, own_local, own_tuple, own_prim, own_choice, own_assign, own_effect, own_while, own_range, own_return, own_function, need_of_places}
+use Rattle.awst.specs.Tree.{by, pack, Ex, constant, variable, strict, both, choose, exs_of, to_variable, St, assign, effect, loop, count, give_back, sts_of}
 use Rattle.awst.specs.Places.{scalars_of}
-use Rattle.awst.specs.Plain.{made, headed, total_of}
+use Rattle.awst.specs.Plain.{made, headed}
 use Rattle.awst.specs.Meaning.{Function}
 use Rattle.awst.specs.Prescribed.{PlainContract, prescribed_by}
 
@@ -187,4 +186,3 @@ lazy = alone 0 6 (returns_it (made (record { line = 4; col = 9 }) uint64 (own_ch
 lazy_is_approved : (run_of lazy 1).outcome ≡ Some (approved no_entries)
 unfolding lazy row_of table
 lazy_is_approved = refl
-

@@ -1,15 +1,15 @@
 -- The operators and the forms of the library: what each gives, by its parts.
-use Rattle.std.specs.Prelude.{ℕ, ◌≡◌, ◌+◌, ◌==◌, ◌&&◌, ◌||◌, Bool, true, false, not, nat_lt, nat_le, if◌then◌else◌, List, [], ◌∷◌, ◌++◌, length, take, drop, slice_get, replicate, Option, Some, None, option_map}
+use Rattle.std.specs.Prelude.{ℕ, ◌==◌, Bool, true, false, not, nat_le, if◌then◌else◌, List, [], ◌∷◌, ◌++◌, length, take, drop, slice_get, replicate, Option, Some, None, option_map}
 use Rattle.std.specs.Int.{w64, to_be_bytes}
 use Rattle.puya_base.specs.declared.value.Value.{Value}
-use Rattle.puya_base.specs.declared.value.Value.TheVariants.{Int, Bytes}
+use Rattle.puya_base.specs.declared.value.Value.TheVariants.{Int}
 use Rattle.avm_ops.specs.declared.instr.Instr.{Instr}
 use Rattle.avm_ops.specs.declared.instr.Imm.TheVariants as imm
 use Rattle.avm_ops.specs.Rows.{value_row}
 use Rattle.avm_state.specs.declared.call.Call.{Call}
 use Rattle.awst.specs.declared.prim.Prim.{Prim}
 use Rattle.awst.specs.declared.prim.Prim.TheVariants as prim
-use Rattle.awst.specs.Values.{Val, number, flag, string, nothing, tuple, vals_of, listed, all_scalars, of_results, holds, truth_of, parts_of}
+use Rattle.awst.specs.Values.{Val, number, flag, string, nothing, all_scalars, of_results, truth_of}
 
 -- the members of Txn and Global
 pub data Member : Type 0 where

@@ -1,7 +1,6 @@
 -- Functions as plain data: their variables, their bodies, and what they pay and need.
-use Rattle.std.specs.Prelude.{ℕ, ◌+◌, map, List, [], ◌∷◌, ◌++◌, length, Option, Some, None}
+use Rattle.std.specs.Prelude.{ℕ, ◌+◌, map, ◌++◌, length}
 use Rattle.puya_base.specs.declared.source.Place.{Place}
-use Rattle.awst.specs.declared.expression.Expr.{Expr}
 use Rattle.awst.specs.declared.statement.Stmt.{Stmt}
 use Rattle.awst.specs.declared.statement.StmtKind.{StmtKind}
 use Rattle.awst.specs.declared.statement.StmtKind.TheOpen.{StmtKind-F, Stmt-F, Arm-F, MatchArm-F}

@@ -1,15 +1,13 @@
 -- What expressions, statements and functions do, under a bound on turns of loops and calls of functions
 -- (Python reference, chapters 6 and 7; Algorand Python guide).
-use Rattle.std.specs.Prelude.{ℕ, zero, suc, ◌+◌, ◌≡◌, ◌&&◌, Bool, true, false, nat_lt, bytes_eq, map, List, [], ◌∷◌, ◌++◌, length, replicate, slice_get, slice_set, Option, Some, None, ⊤}
-use Rattle.puya_base.specs.declared.source.Place.{Place}
+use Rattle.std.specs.Prelude.{ℕ, zero, suc, ◌+◌, Bool, true, false, nat_lt, bytes_eq, map, List, [], ◌∷◌, ◌++◌, length, replicate, slice_get, slice_set, Option, Some, None, ⊤}
 use Rattle.avm_state.specs.declared.call.Call.{Call}
 use Rattle.avm_state.specs.Steps.{add_log_step}
 use Rattle.runs.specs.Marks.{logs}
 use Rattle.runs.specs.Steps.{Run, bind, give, fail, lift, either, pay, tick, act, inside, Going}
-use Rattle.awst.specs.Values.{Val, number, flag, string, nothing, tuple, vals_of, listed, holds, parts_of}
+use Rattle.awst.specs.Values.{Val, number, flag, string, nothing, tuple, vals_of, holds, parts_of}
 use Rattle.awst.specs.Forms.{Action, computes, logs_parts, action_of, computed, log_bytes}
-use Rattle.awst.specs.Table.{Own}
-use Rattle.awst.specs.Tree.{Operation, by, pack, part, element, Node, Ex, ex, Form, constant, variable, strict, both, one_of, choose, call, Exs, no_exprs, an_expr, Destination, to_variable, Head, St, st, Deed, assign, effect, assert, branch, loop, count, each, break, continue, give_back, reject, pick, Picks, no_picks, a_pick, Sts, no_stmts, a_stmt}
+use Rattle.awst.specs.Tree.{Operation, by, pack, part, element, Ex, ex, Form, constant, variable, strict, both, one_of, choose, call, Exs, no_exprs, an_expr, Destination, to_variable, St, st, Deed, assign, effect, assert, branch, loop, count, each, break, continue, give_back, reject, pick, Picks, no_picks, a_pick, Sts, no_stmts, a_stmt}
 
 -- the values of the parameters and then of the locals, by number
 abbrev pub Env : Type 0

@@ -1,8 +1,8 @@
 -- How many places a function's code may hold at level 0, and what it needs on the stack.
-use Rattle.std.specs.Prelude.{ℕ, zero, suc, ◌+◌, ◌-◌, ◌*◌, ◌^◌, max, min, List, [], ◌∷◌, ◌++◌, Option, Some, None}
+use Rattle.std.specs.Prelude.{ℕ, ◌+◌, ◌*◌, max, List, [], ◌∷◌, Option, Some, None}
 use Rattle.awst.specs.Types.{ValueType, scalar_count, scalar_total, types_of}
 use Rattle.awst.specs.Table.{places_of_for}
-use Rattle.awst.specs.Tree.{Node, Ex, ex, Form, constant, variable, strict, both, one_of, choose, call, Exs, no_exprs, an_expr, node_of}
+use Rattle.awst.specs.Tree.{Ex, ex, Form, constant, variable, strict, both, one_of, choose, call, Exs, no_exprs, an_expr, node_of}
 
 abbrev pub scalars_of : Ex → ℕ
 scalars_of e = scalar_count (node_of e).ty

@@ -1,7 +1,6 @@
 -- The plain tree of a typed tree, with the amounts of the table at each node.
-use Rattle.std.specs.Prelude.{ℕ, ◌+◌, ◌==◌, ◌||◌, Bool, true, false, if◌then◌else◌, map, List, [], ◌∷◌, ◌++◌, length, Option, Some, None}
+use Rattle.std.specs.Prelude.{ℕ, ◌+◌, ◌==◌, ◌||◌, Bool, true, false, if◌then◌else◌, map, List, [], ◌∷◌, length, Option, Some, None}
 use Rattle.puya_base.specs.declared.source.Place.{Place}
-use Rattle.awst.specs.declared.ty.Ty.{Ty}
 use Rattle.awst.specs.declared.prim.Prim.{Prim}
 use Rattle.awst.specs.declared.expression.Expr.{Expr}
 use Rattle.awst.specs.declared.expression.ExprKind.{ExprKind}
@@ -13,10 +12,10 @@ use Rattle.awst.specs.declared.statement.Target.TheVariants as target
 use Rattle.awst.specs.declared.statement.Stmt.{Stmt}
 use Rattle.awst.specs.declared.statement.StmtKind.TheOpen.{StmtKind-F, Stmt-F, Arm-F, MatchArm-F}
 use Rattle.awst.specs.declared.statement.StmtKind.TheFolds.{fold-Stmt}
-use Rattle.awst.specs.Types.{ValueType, uint64, bool, scalar_count, type_of}
+use Rattle.awst.specs.Types.{ValueType, bool, scalar_count, type_of}
 use Rattle.awst.specs.Values.{number, flag, string}
 use Rattle.awst.specs.Table.{Own, own_number, own_flag, own_data, own_local, own_tuple, own_item, own_element, own_prim, own_choice, own_call, own_assign, own_effect, own_assert, own_if, own_while, own_range, own_each, own_leave, own_return, own_fail, own_match}
-use Rattle.awst.specs.Tree.{Operation, by, pack, part, element, Node, Ex, ex, Form, constant, variable, strict, both, one_of, choose, call, Exs, no_exprs, an_expr, Destination, to_variable, Head, St, st, Deed, assign, effect, assert, branch, loop, count, each, break, continue, give_back, reject, pick, Picks, no_picks, a_pick, Sts, no_stmts, a_stmt, node_of, exs_of, sts_of}
+use Rattle.awst.specs.Tree.{by, pack, part, element, Ex, ex, Form, constant, variable, strict, both, one_of, choose, call, Exs, no_exprs, an_expr, Destination, to_variable, St, st, Deed, assign, effect, assert, branch, loop, count, each, break, continue, give_back, reject, pick, Picks, no_picks, a_pick, Sts, no_stmts, a_stmt, node_of, exs_of}
 use Rattle.awst.specs.Places.{scalars_of}
 
 -- ---- expressions
@@ -220,4 +219,3 @@ pick_layer a = record { literal = a.literal; body = a.body }
 
 abbrev pub statement_of : Stmt → Statement
 statement_of = fold-Stmt (Place → Statement) PlainArm PlainPick Statement stmt_layer arm_layer pick_layer placed_layer
-

@@ -5,10 +5,10 @@ use Rattle.avm_state.specs.declared.call.Call.{Call}
 use Rattle.avm_state.specs.Calls.{clear_state}
 use Rattle.avm_state.specs.LedgerState.{LedgerState}
 use Rattle.runs.specs.Seen.{nothing_seen}
-use Rattle.runs.specs.Steps.{Run, Result, bind, give, fail, pay, inside, begin}
+use Rattle.runs.specs.Steps.{Run, bind, give, fail, pay, inside, begin}
 use Rattle.runs.specs.Moments.{Meaning, moment_of}
 use Rattle.awst.specs.declared.contract.Contract.{Contract}
-use Rattle.awst.specs.Values.{Val, number, flag, string, nothing, tuple}
+use Rattle.awst.specs.Values.{Val, number, flag, nothing}
 use Rattle.awst.specs.Table.{entry_amount, init_amount, entry_places, need_of_places}
 use Rattle.awst.specs.Meaning.{Function, Program, need_at, called}
 use Rattle.awst.specs.Functions.{function_of}

@@ -1,5 +1,5 @@
 -- Which types an operator or a form of the library takes, and which type it gives.
-use Rattle.std.specs.Prelude.{ℕ, ◌≡◌, Bool, true, false, IsTrue, List, [], ◌∷◌}
+use Rattle.std.specs.Prelude.{◌≡◌, Bool, true, false, IsTrue, List, [], ◌∷◌}
 use Rattle.std.specs.List.{All}
 use Rattle.awst.specs.declared.prim.Prim.{Prim}
 use Rattle.awst.specs.declared.prim.Prim.TheVariants as prim

@@ -1,11 +1,11 @@
 -- What is sound: each name names something, the parts and the type of each node are those that its kind asks for, and each variable is read where it is assigned.
-use Rattle.std.specs.Prelude.{ℕ, ◌≡◌, ◌<◌, ◌≤◌, ◌↔◌, ◌⊎◌, Bool, true, false, IsTrue, map, List, [], ◌∷◌, ◌++◌, length, slice_get, Option, Some, None}
+use Rattle.std.specs.Prelude.{ℕ, ◌≡◌, ◌<◌, ◌≤◌, ◌↔◌, ◌⊎◌, Bool, true, false, IsTrue, map, List, [], ◌∷◌, length, slice_get, Option, Some, None}
 use Rattle.std.specs.List.{All}
 use Rattle.awst.specs.declared.contract.Func.{Func}
 use Rattle.awst.specs.declared.contract.Contract.{Contract}
-use Rattle.awst.specs.Types.{ValueType, uint64, bool, bytes, text, account, nothing, tuple, Types, no_types, a_type, types_of, type_of, is_kept}
+use Rattle.awst.specs.Types.{ValueType, uint64, bool, bytes, text, nothing, tuple, Types, no_types, a_type, types_of, type_of, is_kept}
 use Rattle.awst.specs.Values.{Val, number, flag, string}
-use Rattle.awst.specs.Tree.{Operation, by, pack, part, element, Node, Ex, ex, Form, constant, variable, strict, both, one_of, choose, call, Exs, no_exprs, an_expr, Destination, to_variable, Head, St, st, Deed, assign, effect, assert, branch, loop, count, each, break, continue, give_back, reject, pick, Picks, no_picks, a_pick, Sts, no_stmts, a_stmt, node_of}
+use Rattle.awst.specs.Tree.{Operation, by, pack, part, element, Ex, ex, Form, constant, variable, strict, both, one_of, choose, call, Exs, no_exprs, an_expr, Destination, to_variable, St, st, Deed, assign, effect, assert, branch, loop, count, each, break, continue, give_back, reject, pick, Picks, no_picks, a_pick, Sts, no_stmts, a_stmt, node_of}
 use Rattle.awst.specs.Plain.{Scope}
 use Rattle.awst.specs.Functions.{scope_of, body_of}
 use Rattle.awst.specs.Paths.{sts_moves, ReadsAssigned, NeverEnds}

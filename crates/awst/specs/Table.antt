@@ -1,6 +1,6 @@
 -- The table of weights, prices and places: what the code of each node may weigh in bytes, what a run pays for it in units of the budget,
 -- and how many places of its own its code may hold besides the values of its parts.
-use Rattle.std.specs.Prelude.{ℕ, zero, suc, ◌+◌, ◌*◌, ◌/◌, ◌^◌, nat_lt, Bool, true, false, if◌then◌else◌, List, [], ◌∷◌, length}
+use Rattle.std.specs.Prelude.{ℕ, zero, suc, ◌+◌, ◌*◌, ◌/◌, ◌^◌, nat_lt, if◌then◌else◌}
 use Rattle.awst.specs.declared.prim.Prim.{Prim}
 use Rattle.awst.specs.declared.prim.Prim.TheVariants as prim
 

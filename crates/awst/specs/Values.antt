@@ -1,5 +1,5 @@
 -- Values of the source, and the machine's values that stand for them.
-use Rattle.std.specs.Prelude.{ℕ, ◌==◌, Bool, true, false, not, List, [], ◌∷◌, ◌++◌, length, Option, Some, None}
+use Rattle.std.specs.Prelude.{ℕ, ◌==◌, Bool, false, not, List, [], ◌∷◌, ◌++◌, length, Option, Some, None}
 use Rattle.puya_base.specs.declared.value.Value.{Value}
 use Rattle.puya_base.specs.declared.value.Value.TheVariants.{Int, Bytes}
 use Rattle.avm_ops.specs.Numbers.{truth}

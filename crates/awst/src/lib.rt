@@ -8,6 +8,8 @@ mod laws;
 mod loads;
 mod prim;
 mod statement;
+#[cfg(test)]
+mod tests;
 mod ty;
 mod waits;
 

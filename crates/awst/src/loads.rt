@@ -159,7 +159,10 @@ fn arm_load(arm: &Arm) -> Load
     ensures fors { result.fors ≡ capped (load_of_arm arm.now).fors }
     ensures literals { result.literals ≡ capped (load_of_arm arm.now).literals }
 {
-    beside(only_wait(wait_of(&arm.condition)), body_load(arm.body.as_slice()))
+    beside(
+        only_wait(wait_of(&arm.condition)),
+        body_load(arm.body.as_slice()),
+    )
 }
 
 #[cycle(load)]

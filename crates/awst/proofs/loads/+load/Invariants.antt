@@ -1,4 +1,4 @@
-use Rattle.std.proofs.Common.{◌≡◌, ◌+◌, List, map, max, drop}
+use Rattle.std.proofs.Common.{◌≡◌, ◌+◌, map, max, drop}
 use Rattle.awst.specs.Capped.{capped}
 use Rattle.awst.specs.Places.{Load, all_loads}
 use Rattle.awst.specs.declared.loads.Load.{Load as Counted}

@@ -1,4 +1,4 @@
-use Rattle.std.proofs.Common.{◌≡◌, map, sym, ap, ◌∙◌, arith}
+use Rattle.std.proofs.Common.{map, sym, ap, ◌∙◌, arith}
 use Rattle.awst.specs.Capped.{capped}
 use Rattle.awst.specs.Places.{wait}
 use Rattle.awst.specs.Plain.{tree_of, assigned_value, destination}
