@@ -16,6 +16,7 @@ use Rattle.awst.specs.Places.{scalars_of}
 use Rattle.awst.specs.Plain.{made, headed}
 use Rattle.awst.specs.Meaning.{Function}
 use Rattle.awst.specs.Prescribed.{PlainContract, prescribed_by}
+use Rattle.awst.specs.Weight.{plain_weight}
 
 at : ℕ → Place
 at line = record { line = line; col = 9 }
@@ -186,3 +187,13 @@ lazy = alone 0 6 (returns_it (made (record { line = 4; col = 9 }) uint64 (own_ch
 lazy_is_approved : (run_of lazy 1).outcome ≡ Some (approved no_entries)
 unfolding lazy row_of table
 lazy_is_approved = refl
+
+-- three logs of 700 bytes each, return UInt64(1); the clear state program returns UInt64(1)
+three_logs : PlainContract
+three_logs =
+    let log_it = does_on 4 (form prim.Log (data_of (replicate 700 97) ∷ []) nothing) in
+    record { functions = function 0 3 (log_it ∷ log_it ∷ log_it ∷ returns_it (num 1) ∷ []) ∷ function 0 1 (returns_it (num 1) ∷ []) ∷ []; approval = Some 0; clear = Some 1; init = None }
+
+three_logs_weigh : plain_weight three_logs ≡ 2618
+unfolding three_logs
+three_logs_weigh = refl

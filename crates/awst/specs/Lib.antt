@@ -9,6 +9,7 @@ pub mod Places
 pub mod Plain
 pub mod Functions
 pub mod Prescribed
+pub mod Weight
 pub mod Paths
 pub mod Shapes
 pub mod Sound

@@ -1,9 +1,8 @@
 -- Ends, agreement and 'at most'.
-use Rattle.std.proofs.Common.{◌≡◌, ℕ, zero, suc, ◌+◌, ◌-◌, ◌≤◌, ◌⊎◌, inl, inr, List, [], ◌∷◌, ◌++◌, Option, Some, None, refl, sym, ap, ◌∙◌, subst, arith, append_assoc, append-nil}
+use Rattle.std.proofs.Common.{◌≡◌, ℕ, ◌+◌, ◌-◌, ◌≤◌, inl, inr, List, [], ◌∷◌, ◌++◌, Some, sym, ap, ◌∙◌, subst, arith, append_assoc, append-nil}
 use Rattle.std.proofs.lemmas.Bool.{cases_lt}
 use Rattle.runs.specs.Marks.{Mark, IsPrefix, AreEqual}
-use Rattle.runs.specs.Seen.{Seen}
-use Rattle.runs.specs.Moments.{Outcome, Moment, Meaning, Lasts, IsEnd, Agrees, IsSublist, none, kept, left_out, SeesAtMost, IsAtMost, IsNoDeeper, OneEnd}
+use Rattle.runs.specs.Moments.{Outcome, Meaning, Lasts, IsEnd, Agrees, IsSublist, none, kept, left_out, IsAtMost, IsNoDeeper, OneEnd}
 
 some_is : {o p : Outcome} → Some o ≡ Some p → o ≡ p
 some_is e = cc e
@@ -18,9 +17,10 @@ both_end m lasts o p l r a b le =
     (some_is (sym a.outcome ∙ ap (λ x. x.outcome) (sym e) ∙ b.outcome), sym a.marks ∙ ap (λ x. x.seen.marks) (sym e) ∙ b.marks)
 
 pub one_end : (m : Meaning) → Lasts m → OneEnd m
-one_end m lasts o p l r a b = elim (cases_lt a.bound b.bound)
-  [ inl lt ↦ both_end m lasts o p l r a b (omega (arith, lt))
-  | inr le ↦ let e = both_end m lasts p o r l b a le in (sym e.0, sym e.1) ]
+one_end m lasts o p l r a b = elim (cases_lt a.bound b.bound) [
+  | inl lt ↦ both_end m lasts o p l r a b (omega (arith, lt))
+  | inr le ↦ let e = both_end m lasts p o r l b a le in (sym e.0, sym e.1)
+]
 
 pub agrees_with_itself : (m : Meaning) → Agrees m m
 agrees_with_itself m = record { there = λ o l e. e; back = λ o l e. e }

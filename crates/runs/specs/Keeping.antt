@@ -1,9 +1,9 @@
 -- What ended under a bound is the same under a larger one, and what went on past it only sees more: a lemma for each way to put runs together.
-use Rattle.std.proofs.Common.{◌≡◌, ℕ, zero, suc, ◌+◌, ◌≤◌, max, List, [], ◌∷◌, ◌++◌, Bool, true, false, Option, Some, None, refl, sym, ap, ◌∙◌, subst, arith, append_assoc, append-nil}
+use Rattle.std.proofs.Common.{◌≡◌, ℕ, zero, suc, ◌+◌, ◌≤◌, List, [], ◌∷◌, ◌++◌, Bool, true, false, Option, Some, None, refl, sym, ap, ◌∙◌, subst, arith, append_assoc, append-nil}
 use Rattle.avm_state.specs.LedgerState.{LedgerState}
 use Rattle.avm_state.specs.Steps.{Step}
-use Rattle.runs.specs.Marks.{Change, Mark, IsPrefix}
-use Rattle.runs.specs.Seen.{Seen, Grows, total, paid, entered, left_to, changed, looked_at}
+use Rattle.runs.specs.Marks.{Change}
+use Rattle.runs.specs.Seen.{Seen, Grows, paid, entered, left_to, changed, looked_at}
 use Rattle.runs.specs.Steps.{World, Result, Gives, Fails, Going, Run, after, bind, give, fail, lift, either, with_seen, pay, with_rest, use_one, tick, stepped, look, act, closed, inside, world_of}
 
 -- the same, with k more left of the bound
@@ -59,9 +59,10 @@ either_keeps k true run run' other other' h g = h
 either_keeps k false run run' other other' h g = g
 
 pub pay_keeps : {A : Type 0} (k c : ℕ) (run run' : Run A) → Keeps k run run' → Keeps k (pay c run) (pay c run')
-pay_keeps k c run run' h = record
-  { later = λ w. h.later (with_seen w (paid c w.seen))
-  ; grows = λ w. on (calm w.seen (paid c w.seen) (omega arith) (omega arith) refl) (h.grows (with_seen w (paid c w.seen))) }
+pay_keeps k c run run' h = record {
+  later = λ w. h.later (with_seen w (paid c w.seen));
+  grows = λ w. on (calm w.seen (paid c w.seen) (omega arith) (omega arith) refl) (h.grows (with_seen w (paid c w.seen)));
+}
 
 use_grows : {A : Type 0} (n : ℕ) (run : Run A) → ((w : World) → Grows w.seen (world_of (run w)).seen) → (w : World) → Grows w.seen (world_of (use_one n run w)).seen
 use_grows zero run h w = same w.seen
@@ -98,11 +99,12 @@ closed_keeps : {A : Type 0} (k : ℕ) (opened : List ℕ) (a : A) → Keeps k (c
 closed_keeps k opened a = record { later = λ w. refl; grows = λ w. calm w.seen (left_to opened w.seen) (omega arith) (omega arith) refl }
 
 pub inside_keeps : {A : Type 0} (k : ℕ) (need : ℕ → ℕ) (f : ℕ) (run run' : Run A) → Keeps k run run' → Keeps k (inside need f run) (inside need f run')
-inside_keeps k need f run run' h = record
-  { later = λ w. after_later k (run (with_seen w (entered need f w.seen))) (run' (more k (with_seen w (entered need f w.seen)))) (closed w.seen.opened) (closed w.seen.opened) (h.later (with_seen w (entered need f w.seen))) (closed_keeps k w.seen.opened)
-  ; grows = λ w. after_grows w.seen (run' (with_seen w (entered need f w.seen))) (closed w.seen.opened)
+inside_keeps k need f run run' h = record {
+  later = λ w. after_later k (run (with_seen w (entered need f w.seen))) (run' (more k (with_seen w (entered need f w.seen)))) (closed w.seen.opened) (closed w.seen.opened) (h.later (with_seen w (entered need f w.seen))) (closed_keeps k w.seen.opened);
+  grows = λ w. after_grows w.seen (run' (with_seen w (entered need f w.seen))) (closed w.seen.opened)
       (on (calm w.seen (entered need f w.seen) (omega arith) (omega arith) refl) (h.grows (with_seen w (entered need f w.seen))))
-      (λ a. (closed_keeps k w.seen.opened a).grows) }
+      (λ a. (closed_keeps k w.seen.opened a).grows);
+}
 
 -- past every bound there is nothing to keep
 pub going_keeps : {A : Type 0} (k : ℕ) (run' : Run A) → ((w : World) → Grows w.seen (world_of (run' w)).seen) → Keeps k (λ w. Going w) run'

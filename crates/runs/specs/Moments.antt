@@ -1,9 +1,9 @@
 -- Step-bounded meanings: at each bound, how a run ended, if it did, and what it has seen so far.
 use Rattle.std.specs.Prelude.{ℕ, ◌+◌, ◌≡◌, ◌≤◌, Bool, true, false, List, [], ◌∷◌, Option, Some, None}
 use Rattle.avm_state.specs.LedgerState.{LedgerState}
-use Rattle.runs.specs.Marks.{Mark, IsPrefix, AreEqual}
+use Rattle.runs.specs.Marks.{Mark}
 use Rattle.runs.specs.Seen.{Seen, Grows}
-use Rattle.runs.specs.Steps.{World, Result, Gives, Fails, Going}
+use Rattle.runs.specs.Steps.{Result, Gives, Fails, Going}
 
 -- how a call of a contract ends
 pub data Outcome : Type 0 where

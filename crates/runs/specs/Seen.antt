@@ -1,5 +1,5 @@
 -- What a run has seen so far.
-use Rattle.std.specs.Prelude.{ℕ, zero, suc, ◌+◌, ◌≤◌, max, List, [], ◌∷◌, ◌++◌}
+use Rattle.std.specs.Prelude.{ℕ, ◌+◌, ◌≤◌, max, List, [], ◌∷◌, ◌++◌}
 use Rattle.avm_state.specs.LedgerState.{LedgerState}
 use Rattle.runs.specs.Marks.{Change, Mark, IsPrefix}
 

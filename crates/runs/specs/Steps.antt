@@ -1,5 +1,5 @@
 -- Runs with a bound, put together from few steps: each gives a value, fails, or goes on past the bound.
-use Rattle.std.specs.Prelude.{ℕ, zero, suc, ◌+◌, Bool, true, false, List, [], ◌∷◌, Option, Some, None}
+use Rattle.std.specs.Prelude.{ℕ, zero, suc, Bool, true, false, List, Option, Some, None}
 use Rattle.avm_state.specs.LedgerState.{LedgerState}
 use Rattle.avm_state.specs.Steps.{Step}
 use Rattle.runs.specs.Marks.{Change}
