@@ -169,8 +169,14 @@ abbrev pub assigned_value : Place → Option Prim → List Destination → Ex �
 assigned_value place (Some prim) (d ∷ []) e = updated place prim d e
 assigned_value place _ ds e = e
 
+-- an augmented assignment has one destination: with another number of them it has none
+abbrev pub assigned_to : Option Prim → List Destination → List Destination
+assigned_to None ds = ds
+assigned_to (Some prim) (d ∷ []) = d ∷ []
+assigned_to (Some prim) _ = []
+
 abbrev pub assign_plain : Place → List Destination → Option Prim → Ex → St
-assign_plain place ds prim e = headed place (own_assign (scalars_of e)) (assign ds (assigned_value place prim ds e))
+assign_plain place ds prim e = headed place (own_assign (scalars_of e)) (assign (assigned_to prim ds) (assigned_value place prim ds e))
 
 abbrev pub optional_scalars : Option Ex → ℕ
 optional_scalars None = 0
