@@ -4,3 +4,4 @@ pub mod Waiting
 pub mod Counting
 pub mod Keeps
 pub mod WorkedRows
+pub mod SoundRows
