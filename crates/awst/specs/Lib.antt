@@ -1,0 +1,15 @@
+pub mod Capped
+pub mod Types
+pub mod Values
+pub mod Forms
+pub mod Table
+pub mod Tree
+pub mod Meaning
+pub mod Places
+pub mod Plain
+pub mod Functions
+pub mod Prescribed
+pub mod Weight
+pub mod Paths
+pub mod Shapes
+pub mod Sound

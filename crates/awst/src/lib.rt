@@ -1,0 +1,22 @@
+//! Typed trees of contracts: what they mean, and what their code may weigh, cost and need.
+#![tactic(auto)]
+
+mod amounts;
+mod contract;
+mod expression;
+mod laws;
+mod loads;
+mod prim;
+mod statement;
+#[cfg(test)]
+mod tests;
+mod ty;
+mod waits;
+
+pub use amounts::{places, stack_need};
+pub use contract::{Contract, Func, Funcs};
+pub use expression::{Expr, ExprKind, Exprs, Index, Order};
+pub use laws::what_is_prescribed_lasts;
+pub use prim::Prim;
+pub use statement::{Arm, Arms, MatchArm, MatchArms, Stmt, StmtKind, Stmts, Target, Targets};
+pub use ty::{Ty, Tys};
