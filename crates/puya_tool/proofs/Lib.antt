@@ -1,2 +1,5 @@
 pub mod WellFormed
+pub mod Serving
+pub mod Clearing
+pub mod Reading
 pub mod Due

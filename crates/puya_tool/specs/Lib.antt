@@ -1,3 +1,4 @@
+pub mod Source
 pub mod Words
 pub mod Text
 pub mod Commands
@@ -15,7 +16,3 @@ pub use Rattle.call_file.specs.Saved
 pub use Rattle.outcome_text.specs.Text as OutcomeText
 pub use Rattle.puya_base.specs.Files
 pub use Rattle.puya_base.specs.Causes
-pub use Rattle.compiler.specs.Form as SourceForm
-pub use Rattle.compiler.specs.Source
-pub use Rattle.compiler.specs.Programs
-pub use Rattle.compiler.specs.Compiled

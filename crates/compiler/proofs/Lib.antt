@@ -1,4 +1,0 @@
-pub mod WellFormed
-pub mod Serving
-pub mod Clearing
-pub mod Forming

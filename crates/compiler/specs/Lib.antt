@@ -1,4 +1,0 @@
-pub mod Form
-pub mod Source
-pub mod Programs
-pub mod Compiled
