@@ -1,7 +1,7 @@
 -- Counts of places, with counts that stand still.
 use Rattle.std.proofs.Common.{◌≡◌, ℕ, ◌+◌, ◌*◌, ◌∙◌, max, List, [], ◌∷◌, ◌++◌, map, length, Some, refl, ap, arith}
 use Rattle.awst.specs.declared.ty.Ty.{Ty}
-use Rattle.awst.specs.declared.prim.Prim.{Prim}
+use Rattle.awst.specs.declared.primitive.Primitive.{Primitive}
 use Rattle.awst.specs.declared.statement.Target.{Target}
 use Rattle.awst.specs.declared.statement.Target.TheVariants as target
 use Rattle.awst.specs.Types.{type_of, types_of, scalar_total}
@@ -34,7 +34,7 @@ pub need_result : (p l cp tw a cl res : ℕ) → cp ≡ capped p → tw ≡ capp
 need_result p l cp tw a cl res ecp etw ea ecl eres =
     eres ∙ ap (λ x. capped (x + cl)) (ea ∙ ap (λ x. capped (x + 16)) (etw ∙ ap (λ x. capped (x * 2)) ecp)) ∙ ap (λ x. capped (capped (capped (capped p * 2) + 16) + x)) ecl ∙ need_count p l
 
-pub assigned_one : (prim : Prim) (ts : List Target) (e : Ex) → length ts ≡ 1 → (x : ℕ) × (assigned_value no_place (Some prim) (map destination ts) e ≡ updated no_place prim (to_variable x) e)
+pub assigned_one : (prim : Primitive) (ts : List Target) (e : Ex) → length ts ≡ 1 → (x : ℕ) × (assigned_value no_place (Some prim) (map destination ts) e ≡ updated no_place prim (to_variable x) e)
 assigned_one prim [] e h = absurd (omega (arith, h))
 assigned_one prim (target.Local x ∷ []) e h = (x, refl)
 assigned_one prim (t ∷ u ∷ ts) e h = absurd (omega (arith, h))

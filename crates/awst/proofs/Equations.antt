@@ -4,7 +4,7 @@ use Rattle.awst.specs.declared.ty.Ty.{Ty}
 use Rattle.awst.specs.declared.ty.Ty.TheVariants as ty
 use Rattle.awst.specs.declared.ty.Ty.TheOpen.{Ty-F}
 use Rattle.awst.specs.declared.ty.Ty.TheFolds.{fold-roll-Ty}
-use Rattle.awst.specs.declared.prim.Prim.{Prim}
+use Rattle.awst.specs.declared.primitive.Primitive.{Primitive}
 use Rattle.awst.specs.declared.expression.Expr.{Expr}
 use Rattle.awst.specs.declared.expression.ExprKind.TheFolds.{fold_out-Expr}
 use Rattle.awst.specs.Types.{ValueType, tuple, types_of, type_of, type_layer}

@@ -2,7 +2,7 @@
 use Rattle.std.proofs.Common.{◌≡◌, ℕ, zero, suc, ◌<◌, Bool, false, List, [], ◌∷◌, Some, refl, arith}
 use Rattle.std.specs.Prelude.{slice_get}
 use Rattle.puya_base.specs.declared.source.Place.{Place}
-use Rattle.awst.specs.declared.prim.Prim.TheVariants as prim
+use Rattle.awst.specs.declared.primitive.Primitive.TheVariants as prim
 use Rattle.awst.specs.Types.{uint64, bool}
 use Rattle.awst.specs.Values.{number}
 use Rattle.awst.specs.Table.{own_number, own_local, own_prim, own_call, own_if, own_return}

@@ -6,8 +6,8 @@ use Rattle.avm_state.specs.LedgerState.{LedgerState, no_entries}
 use Rattle.avm_ops.specs.Table.{row_of, table}
 use Rattle.runs.specs.Marks.{Mark, logs}
 use Rattle.runs.specs.Moments.{approved, rejected, Meaning}
-use Rattle.awst.specs.declared.prim.Prim.{Prim}
-use Rattle.awst.specs.declared.prim.Prim.TheVariants as prim
+use Rattle.awst.specs.declared.primitive.Primitive.{Primitive}
+use Rattle.awst.specs.declared.primitive.Primitive.TheVariants as prim
 use Rattle.awst.specs.Types.{ValueType, uint64, bool, bytes, nothing, scalar_count, tuple, types_of}
 use Rattle.awst.specs.Values.{number, flag, string}
 use Rattle.awst.specs.Table.{own_number, own_flag, own_data, own_local, own_tuple, own_prim, own_choice, own_assign, own_effect, own_while, own_range, own_return, own_function, need_of_places}
@@ -33,7 +33,7 @@ truth b = made (record { line = 4; col = 9 }) bool own_flag (constant (flag b))
 abbrev local : ℕ → ValueType → Ex
 local x t = made (record { line = 4; col = 9 }) t (own_local (scalar_count t)) (variable x)
 
-abbrev form : Prim → List Ex → ValueType → Ex
+abbrev form : Primitive → List Ex → ValueType → Ex
 form q es t = made (record { line = 4; col = 9 }) t (own_prim q (scalar_count t) (length es)) (strict (by q) (exs_of es))
 
 abbrev pair : Ex → Ex → ValueType → Ex

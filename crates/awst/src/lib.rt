@@ -6,7 +6,7 @@ mod contract;
 mod expression;
 mod laws;
 mod loads;
-mod prim;
+mod primitive;
 mod statement;
 #[cfg(test)]
 mod tests;
@@ -17,6 +17,6 @@ pub use amounts::{places, stack_need};
 pub use contract::{Contract, Func, Funcs};
 pub use expression::{Expr, ExprKind, Exprs, Index, Order};
 pub use laws::what_is_prescribed_lasts;
-pub use prim::Prim;
+pub use primitive::Primitive;
 pub use statement::{Arm, Arms, MatchArm, MatchArms, Stmt, StmtKind, Stmts, Target, Targets};
 pub use ty::{Ty, Tys};

@@ -8,7 +8,7 @@ ghost use Rattle.awst.specs.Tree.{to_variable};
 ghost use Rattle.awst.specs.Functions.{no_place, load_of, load_of_kind, load_of_arm, load_of_pick};
 
 use crate::expression::Expr;
-use crate::prim::Prim;
+use crate::primitive::Primitive;
 use crate::statement::{Arm, MatchArm, Stmt, StmtKind, Target};
 use crate::waits::{Part, asked, prim_places, scalars, two_wait, wait_of};
 
@@ -78,7 +78,7 @@ fn optional_wait(e: &Option<Expr>) -> u64
 }
 
 /// What waits while an augmented assignment operates on its variable and its right side.
-fn updated_wait(prim: Prim, e: &Expr) -> u64
+fn updated_wait(prim: Primitive, e: &Expr) -> u64
     ensures { (x : ℕ) → result ≡ capped (wait (updated no_place prim (to_variable x) (tree_of e.now))) }
 {
     let own = prim_places(prim);
@@ -90,7 +90,7 @@ fn updated_wait(prim: Prim, e: &Expr) -> u64
     held.saturating_add(own).max(two_wait(read, asked(e), own))
 }
 
-fn assigned_wait(targets: &[Target], prim: Option<Prim>, e: &Expr) -> u64
+fn assigned_wait(targets: &[Target], prim: Option<Primitive>, e: &Expr) -> u64
     ensures { result ≡ capped (wait (assigned_value no_place prim (map destination targets.now) (tree_of e.now))) }
 {
     match (prim, targets) {

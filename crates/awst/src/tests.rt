@@ -1,5 +1,5 @@
 use crate::{
-    Expr, ExprKind, Exprs, Func, Prim, Stmt, StmtKind, Stmts, Ty, Tys, places, stack_need,
+    Expr, ExprKind, Exprs, Func, Primitive, Stmt, StmtKind, Stmts, Ty, Tys, places, stack_need,
 };
 use puya_base::{List, Memory, Name, Place};
 use std::alloc::Global;
@@ -40,7 +40,7 @@ fn product(alloc: Global) -> Result<Expr, Memory> {
     let mut parts: Exprs = List::new(alloc);
     parts.push(number(ExprKind::Int(6)))?;
     parts.push(number(ExprKind::Int(7)))?;
-    Ok(number(ExprKind::Prim(Prim::Mul, parts)))
+    Ok(number(ExprKind::Prim(Primitive::Mul, parts)))
 }
 
 #[test]

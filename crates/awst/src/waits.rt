@@ -8,7 +8,7 @@ ghost use Rattle.awst.specs.Places.{wait, form_wait, parts_wait as parts_waited,
 ghost use Rattle.awst.specs.Plain.{bare_of, tree_of, trees_of};
 
 use crate::expression::{Expr, ExprKind, Index};
-use crate::prim::Prim;
+use crate::primitive::Primitive;
 use crate::ty::Ty;
 
 /// How many scalars a value of the type has: one, or those of a tuple's parts, or none of `Nothing`.
@@ -35,11 +35,12 @@ pub(crate) fn total_scalars(parts: &[Ty]) -> u64
 }
 
 /// How many places a form holds besides the values of its parts.
-pub(crate) fn prim_places(prim: Prim) -> u64
+pub(crate) fn prim_places(prim: Primitive) -> u64
     ensures { (s parts : ℕ) → result ≡ (own_prim prim s parts).places }
 {
     match prim {
-        Prim::SliceAll | Prim::SliceFrom | Prim::SliceTo | Prim::SliceBetween => 4,
+        Primitive::SliceAll | Primitive::SliceFrom | Primitive::SliceTo | Primitive::SliceBetween =>
+            4,
         _ => 2,
     }
 }
