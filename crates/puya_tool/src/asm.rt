@@ -9,6 +9,7 @@ ghost use Rattle.puya_tool.specs.Text.{answer_text};
 ghost use Rattle.puya_tool.specs.Words.{bin_name};
 
 use crate::answer::{Answer, Ready, unread, with_text};
+use crate::text;
 use avm_asm::{AsmFault, Lines, assemble};
 use puya_base::{Blob, FileFault, Files, Memory, Name};
 use std::alloc::Global;
@@ -66,7 +67,8 @@ fn bin_of(alloc: Global, file: &str) -> Result<String, Memory>
     Ok(format!(in alloc; "{file}.bin")?)
 }
 
-/// The answers to a write, with their texts, before it is done.
+/// Writes the code. The texts of both ends are made before, so that no memory is wanted once it is written.
+#[tactic(auto, unfolding(crate::specs::Text::answer_text))]
 fn written<F: Files>(alloc: Global, name: &str, code: &[u8], files: &mut F) -> Result<Ready, Memory>
     ensures text { IfOk result (λ r. r.text ≡ answer_text r.answer) }
     ensures told { IfOk result (λ r. Told (F.contents files.old) (F.contents files.new) (λ old new. IsWritten old new name.now code.now r.answer)) }
@@ -74,19 +76,19 @@ fn written<F: Files>(alloc: Global, name: &str, code: &[u8], files: &mut F) -> R
     ensures later { F.faults files.old ≤ F.faults files.new }
     ensures kept { OnErr result (F.contents files.new ≡ F.contents files.old) }
 {
-    let done = Answer::Assembled(Name::new(alloc, name)?, code.len());
-    let done = with_text(alloc, done)?;
-    let failed = Answer::Unwritten(Name::new(alloc, name)?);
-    let failed = with_text(alloc, failed)?;
+    let file = Name::new(alloc, name)?;
+    let done = text::assembled(alloc, name, code.len())?;
+    let failed = text::unwritten(alloc, name)?;
     match files.write(name, code) {
-        Ok(()) => Ok(done),
-        Err(fault) => {
-            if fault == FileFault::Failed {
-                Ok(failed)
-            } else {
-                Err(Memory)
-            }
-        }
+        Ok(()) => Ok(Ready {
+            answer: Answer::Assembled(file, code.len()),
+            text: done,
+        }),
+        Err(FileFault::Failed) => Ok(Ready {
+            answer: Answer::Unwritten(file),
+            text: failed,
+        }),
+        Err(_) => Err(Memory),
     }
 }
 

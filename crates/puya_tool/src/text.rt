@@ -181,12 +181,20 @@ fn not_assembled(alloc: Global, name: &str, fault: AsmFault) -> Result<Blob, Mem
     named(alloc, name, b": ", text.as_slice())
 }
 
-fn assembled(alloc: Global, name: &str, n: usize) -> Result<Blob, Memory>
+/// What is printed where a text's code was written.
+pub(crate) fn assembled(alloc: Global, name: &str, n: usize) -> Result<Blob, Memory>
     ensures { IfOk result (λ t. t ≡ named_line name.now (codes " ") (decimal n ++ codes " bytes")) }
 {
     let mut text = worded(alloc, b"", n as u64)?;
     text.extend(b" bytes")?;
     named(alloc, name, b" ", text.as_slice())
+}
+
+/// What is printed where a write failed.
+pub(crate) fn unwritten(alloc: Global, name: &str) -> Result<Blob, Memory>
+    ensures { IfOk result (λ t. t ≡ named_line name.now (codes ": ") (codes "write failed")) }
+{
+    named(alloc, name, b": ", b"write failed")
 }
 
 fn stopped(alloc: Global, ran: &Ran) -> Result<Blob, Memory>
@@ -210,7 +218,7 @@ pub(crate) fn text_of(alloc: Global, answer: &Answer) -> Result<Blob, Memory>
         Answer::NotProgram(name, fault) => not_program(alloc, name.as_str(), *fault),
         Answer::NotTeal(name, fault) => not_teal(alloc, name.as_str(), *fault),
         Answer::NotAssembled(name, fault) => not_assembled(alloc, name.as_str(), *fault),
-        Answer::Unwritten(name) => named(alloc, name.as_str(), b": ", b"write failed"),
+        Answer::Unwritten(name) => unwritten(alloc, name.as_str()),
         Answer::Stopped(ran) => stopped(alloc, ran),
         Answer::Assembled(name, n) => assembled(alloc, name.as_str(), *n),
         Answer::Listed(text) => text.copy(alloc),
