@@ -33,3 +33,9 @@ pub refused : (source : List ℕ) (tokens : List Token) (rest : List Symbol) →
 refused source tokens rest ends e =
     let ts : List Symbol = symbols source tokens in
     hopeless_at ts rest (symbols_end source tokens ends) (stops_at_first ts rest (module_is ts ∙ e))
+
+pub parsed_at : (source : List ℕ) (tokens : List Token) (ts : List Symbol) (m : Module) (rest : List Symbol) → ts ≡ symbols source tokens → TokensEnd tokens → module_ ts ≡ took m rest → IsOnlyTree m (symbols source tokens)
+parsed_at source tokens ts m rest same ends e = parsed source tokens m rest ends (ap module_ (flip same) ∙ e)
+
+pub refused_at : (source : List ℕ) (tokens : List Token) (ts rest : List Symbol) → ts ≡ symbols source tokens → TokensEnd tokens → module_ ts ≡ stuck rest → IsNoModule (symbols source tokens) (record { rule = P07; place = place_at rest })
+refused_at source tokens ts rest same ends e = refused source tokens rest ends (ap module_ (flip same) ∙ e)

@@ -6,10 +6,10 @@ use Rattle.py_parser.specs.Expressions.{exprs}
 use Rattle.py_parser.proofs.expression.Grammar.exprs.Given as goal
 
 abbrev pub invariant-loop-found : goal.invariant-loop-found
-invariant-loop-found l = record {
+invariant-loop-found g l = record {
   same : exprs l.fn.tokens ≡ listing (part Part.Expr) l.found l.tokens;
   fewer : length l.tokens ≤ length l.fn.tokens;
 }
 
 abbrev pub decreases-loop-found : goal.decreases-loop-found
-decreases-loop-found l = length l.tokens
+decreases-loop-found g l = length l.tokens

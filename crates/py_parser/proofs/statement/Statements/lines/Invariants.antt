@@ -5,11 +5,11 @@ use Rattle.py_grammar.specs.Flow.{again}
 use Rattle.py_parser.specs.Statements.{lines}
 use Rattle.py_parser.proofs.statement.Statements.lines.Given as goal
 
-abbrev pub invariant-loop-self : goal.invariant-loop-self
-invariant-loop-self l = record {
+abbrev pub invariant-loop-tokens : goal.invariant-loop-tokens
+invariant-loop-tokens g l = record {
   same : lines l.fn.tokens ≡ again (part Part.Stmt) l.found l.tokens;
   fewer : length l.tokens < length l.fn.tokens;
 }
 
-abbrev pub decreases-loop-self : goal.decreases-loop-self
-decreases-loop-self l = length l.tokens
+abbrev pub decreases-loop-tokens : goal.decreases-loop-tokens
+decreases-loop-tokens g l = length l.tokens

@@ -6,10 +6,10 @@ use Rattle.py_parser.specs.Types.{type_arguments}
 use Rattle.py_parser.proofs.types.Types.arguments.Given as goal
 
 abbrev pub invariant-loop-found : goal.invariant-loop-found
-invariant-loop-found l = record {
+invariant-loop-found g l = record {
   same : type_arguments l.fn.tokens ≡ listing (part Part.TypeArgument) l.found l.tokens;
   fewer : length l.tokens ≤ length l.fn.tokens;
 }
 
 abbrev pub decreases-loop-found : goal.decreases-loop-found
-decreases-loop-found l = length l.tokens
+decreases-loop-found g l = length l.tokens
