@@ -92,12 +92,12 @@ unfolding signature
 signature_then k =
     regroup (expect sym.Name) (λ n. in_parens >>= (λ q. answered >>= (λ r. (λ c. signed n q r) <$> expect sym.Colon))) k
     ∙ ap (λ (p : Symbol → Parser _). expect sym.Name >>= p) (fun_ext (λ n.
-        regroup in_parens (λ q. answered >>= (λ r. (λ c. signed n q r) <$> expect sym.Colon)) k
-        ∙ ap (λ (p : List Param × Bool → Parser _). in_parens >>= p) (fun_ext (λ q.
-            regroup answered (λ r. (λ c. signed n q r) <$> expect sym.Colon) k
-            ∙ ap (λ (p : Option TypeTree → Parser _). answered >>= p) (fun_ext (λ r. regroup (expect sym.Colon) (λ c. pure (signed n q r)) k))
-            ∙ answered_then (λ r. expect sym.Colon >>= (λ c. k (signed n q r)))))
-        ∙ in_parens_then (λ q. follow answer_rule (λ r. expect sym.Colon >>= (λ c. k (signed n q r))))))
+    regroup in_parens (λ q. answered >>= (λ r. (λ c. signed n q r) <$> expect sym.Colon)) k
+    ∙ ap (λ (p : List Param × Bool → Parser _). in_parens >>= p) (fun_ext (λ q.
+    regroup answered (λ r. (λ c. signed n q r) <$> expect sym.Colon) k
+    ∙ ap (λ (p : Option TypeTree → Parser _). answered >>= p) (fun_ext (λ r. regroup (expect sym.Colon) (λ c. pure (signed n q r)) k))
+    ∙ answered_then (λ r. expect sym.Colon >>= (λ c. k (signed n q r)))))
+    ∙ in_parens_then (λ q. follow answer_rule (λ r. expect sym.Colon >>= (λ c. k (signed n q r))))))
 
 -- ---- functions
 
@@ -109,7 +109,7 @@ unfolding decorator
 decorator_then k = flip (
     regroup (expect sym.At) (λ t. full Part.Post >>= (λ x. (λ z. x) <$> expect sym.Newline)) k
     ∙ ap (λ (p : Parser _). expect sym.At >>= (λ t. p))
-        (regroup (full Part.Post) (λ x. (λ z. x) <$> expect sym.Newline) k ∙ ap (λ (p : Tree → Parser _). full Part.Post >>= p) (fun_ext (λ x. regroup (expect sym.Newline) (λ z. pure x) k))))
+    (regroup (full Part.Post) (λ x. (λ z. x) <$> expect sym.Newline) k ∙ ap (λ (p : Tree → Parser _). full Part.Post >>= p) (fun_ext (λ x. regroup (expect sym.Newline) (λ z. pure x) k))))
 
 pub decorators_are : (xs : List Tree) (ts : List Symbol) → decorators xs ts ≡ on sym.At (decorator >>= (λ x. decorators (xs ++ x ∷ []))) (pure xs) ts
 unfolding decorators
@@ -129,8 +129,8 @@ begun_at k i =
     ap (λ (p : Parser Decorators). and_then (p i) (λ ds. expect sym.Def >>= (λ d. k (first_place d.place ds) ds d))) (again_run decorator_rule)
     ∙ many_then decorator_rule refl refl (λ ds. expect sym.Def >>= (λ d. k (first_place d.place ds) ds d)) i
     ∙ cond_same (has (peek i) (sym.At ∷ [])) _ _ _ _
-        (place_kept sym.At (λ p t. full Part.Post >>= (λ x. expect sym.Newline >>= (λ z. run (many decorator_rule) >>= (λ ds. expect sym.Def >>= (λ d. k p ((t, (x, z)) ∷ ds) d))))) i)
-        (place_kept sym.Def (λ p d. k p [] d) i)
+    (place_kept sym.At (λ p t. full Part.Post >>= (λ x. expect sym.Newline >>= (λ z. run (many decorator_rule) >>= (λ ds. expect sym.Def >>= (λ d. k p ((t, (x, z)) ∷ ds) d))))) i)
+    (place_kept sym.Def (λ p d. k p [] d) i)
     ∙ flip (many_then decorator_rule refl refl (λ ds. expect sym.Def >>= (λ d. k (place_at i) ds d)) i)
     ∙ ap (λ (p : Parser Decorators). and_then (p i) (λ ds. expect sym.Def >>= (λ d. k (place_at i) ds d))) (flip (again_run decorator_rule))
 
@@ -181,8 +181,8 @@ members_then : {B : Type 0} (k : List Member → Parser B) → (full Part.Member
 unfolding members again
 members_then k =
     ap (λ (h : Member → Parser _). full Part.Member >>= h) (fun_ext (λ m.
-        regroup (run (many (part Part.Member))) (λ ms. pure ms) (λ ms. k (m ∷ ms))
-        ∙ flip (regroup (run (many (part Part.Member))) (λ ms. pure (m ∷ ms)) k)))
+    regroup (run (many (part Part.Member))) (λ ms. pure ms) (λ ms. k (m ∷ ms))
+    ∙ flip (regroup (run (many (part Part.Member))) (λ ms. pure (m ∷ ms)) k)))
     ∙ ap (λ (p : Parser Member). p >>= (λ m. again (part Part.Member) (m ∷ []) >>= k)) member_is
     ∙ flip (regroup member (λ m. again (part Part.Member) (m ∷ [])) k)
 
@@ -192,13 +192,13 @@ unfolding class_body
 class_body_then k =
     ap (λ (p : Parser _). expect sym.Colon >>= (λ c. expect sym.Newline >>= (λ n. expect sym.Indent >>= (λ u. p)))) (members_then (λ ms. expect sym.Dedent >>= (λ z. k ms)))
     ∙ flip (
-        regroup (expect sym.Colon) (λ c. expect sym.Newline >>= (λ n. expect sym.Indent >>= (λ i. members >>= (λ ms. (λ z. ms) <$> expect sym.Dedent)))) k
-        ∙ ap (λ (p : Parser _). expect sym.Colon >>= (λ c. p))
-            (regroup (expect sym.Newline) (λ n. expect sym.Indent >>= (λ i. members >>= (λ ms. (λ z. ms) <$> expect sym.Dedent))) k
-            ∙ ap (λ (p : Parser _). expect sym.Newline >>= (λ c. p))
-                (regroup (expect sym.Indent) (λ i. members >>= (λ ms. (λ z. ms) <$> expect sym.Dedent)) k
-                ∙ ap (λ (p : Parser _). expect sym.Indent >>= (λ c. p))
-                    (regroup members (λ ms. (λ z. ms) <$> expect sym.Dedent) k ∙ ap (λ (p : List Member → Parser _). members >>= p) (fun_ext (λ ms. regroup (expect sym.Dedent) (λ z. pure ms) k))))))
+    regroup (expect sym.Colon) (λ c. expect sym.Newline >>= (λ n. expect sym.Indent >>= (λ i. members >>= (λ ms. (λ z. ms) <$> expect sym.Dedent)))) k
+    ∙ ap (λ (p : Parser _). expect sym.Colon >>= (λ c. p))
+    (regroup (expect sym.Newline) (λ n. expect sym.Indent >>= (λ i. members >>= (λ ms. (λ z. ms) <$> expect sym.Dedent))) k
+    ∙ ap (λ (p : Parser _). expect sym.Newline >>= (λ c. p))
+    (regroup (expect sym.Indent) (λ i. members >>= (λ ms. (λ z. ms) <$> expect sym.Dedent)) k
+    ∙ ap (λ (p : Parser _). expect sym.Indent >>= (λ c. p))
+    (regroup members (λ ms. (λ z. ms) <$> expect sym.Dedent) k ∙ ap (λ (p : List Member → Parser _). members >>= p) (fun_ext (λ ms. regroup (expect sym.Dedent) (λ z. pure ms) k))))))
 
 class_name_then : {B : Type 0} (k : Word → List Word → Parser B) →
     (expect sym.Name >>= (λ n. expect sym.LParen >>= (λ l. follow dotted_rule (λ p. expect sym.RParen >>= (λ r. k (word n) (words p)))))) ≡ (class_name >>= (λ h. k h.0 h.1))
@@ -206,11 +206,11 @@ unfolding class_name
 class_name_then k =
     ap (λ (p : Symbol → Parser _). expect sym.Name >>= (λ n. expect sym.LParen >>= (λ l. p n))) (fun_ext (λ n. dotted_path (λ ws. expect sym.RParen >>= (λ r. k (word n) ws))))
     ∙ flip (
-        regroup (expect sym.Name) (λ n. expect sym.LParen >>= (λ l. dotted >>= (λ ws. (λ r. (word n, ws)) <$> expect sym.RParen))) (λ h. k h.0 h.1)
-        ∙ ap (λ (p : Symbol → Parser _). expect sym.Name >>= p) (fun_ext (λ n.
-            regroup (expect sym.LParen) (λ l. dotted >>= (λ ws. (λ r. (word n, ws)) <$> expect sym.RParen)) (λ h. k h.0 h.1)
-            ∙ ap (λ (p : Parser _). expect sym.LParen >>= (λ l. p))
-                (regroup dotted (λ ws. (λ r. (word n, ws)) <$> expect sym.RParen) (λ h. k h.0 h.1) ∙ ap (λ (p : List Word → Parser _). dotted >>= p) (fun_ext (λ ws. regroup (expect sym.RParen) (λ r. pure (word n, ws)) (λ h. k h.0 h.1)))))))
+    regroup (expect sym.Name) (λ n. expect sym.LParen >>= (λ l. dotted >>= (λ ws. (λ r. (word n, ws)) <$> expect sym.RParen))) (λ h. k h.0 h.1)
+    ∙ ap (λ (p : Symbol → Parser _). expect sym.Name >>= p) (fun_ext (λ n.
+    regroup (expect sym.LParen) (λ l. dotted >>= (λ ws. (λ r. (word n, ws)) <$> expect sym.RParen)) (λ h. k h.0 h.1)
+    ∙ ap (λ (p : Parser _). expect sym.LParen >>= (λ l. p))
+    (regroup dotted (λ ws. (λ r. (word n, ws)) <$> expect sym.RParen) (λ h. k h.0 h.1) ∙ ap (λ (p : List Word → Parser _). dotted >>= p) (fun_ext (λ ws. regroup (expect sym.RParen) (λ r. pure (word n, ws)) (λ h. k h.0 h.1)))))))
 
 abbrev class_of : Symbol → Word → List Word → List Member → Class
 class_of t w ws ms = record { place = t.place; name = w; base = ws; members = ms }
@@ -220,8 +220,8 @@ unfolding rule ahead class
 class_is =
     part_is Part.Class
     ∙ ap (λ (p : Symbol → Parser Class). expect sym.Class >>= p) (fun_ext (λ t.
-        class_name_then (λ w ws. expect sym.Colon >>= (λ c. expect sym.Newline >>= (λ n. expect sym.Indent >>= (λ u. full Part.Member >>= (λ m. again (part Part.Member) [] >>= (λ ms. expect sym.Dedent >>= (λ z. pure (class_of t w ws (m ∷ ms)))))))))
-        ∙ ap (λ (p : Word → List Word → Parser Class). class_name >>= (λ h. p h.0 h.1)) (fun_ext (λ w. fun_ext (λ ws. class_body_then (λ ms. pure (class_of t w ws ms)))))))
+    class_name_then (λ w ws. expect sym.Colon >>= (λ c. expect sym.Newline >>= (λ n. expect sym.Indent >>= (λ u. full Part.Member >>= (λ m. again (part Part.Member) [] >>= (λ ms. expect sym.Dedent >>= (λ z. pure (class_of t w ws (m ∷ ms)))))))))
+    ∙ ap (λ (p : Word → List Word → Parser Class). class_name >>= (λ h. p h.0 h.1)) (fun_ext (λ w. fun_ext (λ ws. class_body_then (λ ms. pure (class_of t w ws ms)))))))
 
 -- ---- imports
 
@@ -264,22 +264,22 @@ names_is : (t : Symbol) (ws : List Word) → follow names_rule (λ f. pure (f t 
 unfolding names name_list names_in_parens names_listed
 names_is t ws =
     ap (λ (p : Parser Item). either (sym.Name ∷ []) p (expect sym.LParen >>= (λ l. listing imported_rule [] >>= (λ q. expect sym.RParen >>= (λ z. pure (to_item.FromParen t.place ws q.0 q.1))))))
-        (ap (λ (p : Import → Parser Item). follow imported_rule p) (fun_ext (λ n. gathered (λ q. q.1) (one sym.Comma ~ imported_rule) n (λ ns. pure (to_item.From t.place ws ns))))
-        ∙ flip (imported_then (λ n. gather (λ q. q.1) (one sym.Comma ~ imported_rule) (n ∷ []) >>= (λ ns. pure (to_item.From t.place ws ns))))
-        ∙ flip (regroup imported (λ n. gather (λ q. q.1) (one sym.Comma ~ imported_rule) (n ∷ [])) (λ ns. pure (to_item.From t.place ws ns))))
+    (ap (λ (p : Import → Parser Item). follow imported_rule p) (fun_ext (λ n. gathered (λ q. q.1) (one sym.Comma ~ imported_rule) n (λ ns. pure (to_item.From t.place ws ns))))
+    ∙ flip (imported_then (λ n. gather (λ q. q.1) (one sym.Comma ~ imported_rule) (n ∷ []) >>= (λ ns. pure (to_item.From t.place ws ns))))
+    ∙ flip (regroup imported (λ n. gather (λ q. q.1) (one sym.Comma ~ imported_rule) (n ∷ [])) (λ ns. pure (to_item.From t.place ws ns))))
     ∙ flip (ap (λ (p : Parser Item). either (sym.Name ∷ []) ((λ ns. to_item.From t.place ws ns) <$> name_list) p)
-        (regroup (expect sym.LParen) (λ l. names_listed >>= (λ q. (λ z. q) <$> expect sym.RParen)) (λ q. pure (to_item.FromParen t.place ws q.0 q.1))
-        ∙ ap (λ (p : Parser Item). expect sym.LParen >>= (λ l. p))
-            (regroup names_listed (λ q. (λ z. q) <$> expect sym.RParen) (λ q. pure (to_item.FromParen t.place ws q.0 q.1))
-            ∙ ap (λ (p : List Import × Bool → Parser Item). names_listed >>= p) (fun_ext (λ q. regroup (expect sym.RParen) (λ z. pure q) (λ q. pure (to_item.FromParen t.place ws q.0 q.1)))))))
+    (regroup (expect sym.LParen) (λ l. names_listed >>= (λ q. (λ z. q) <$> expect sym.RParen)) (λ q. pure (to_item.FromParen t.place ws q.0 q.1))
+    ∙ ap (λ (p : Parser Item). expect sym.LParen >>= (λ l. p))
+    (regroup names_listed (λ q. (λ z. q) <$> expect sym.RParen) (λ q. pure (to_item.FromParen t.place ws q.0 q.1))
+    ∙ ap (λ (p : List Import × Bool → Parser Item). names_listed >>= p) (fun_ext (λ q. regroup (expect sym.RParen) (λ z. pure q) (λ q. pure (to_item.FromParen t.place ws q.0 q.1)))))))
 
 from_import_is : (expect sym.From >>= (λ t. follow dotted_rule (λ w. expect sym.Import >>= (λ u. follow names_rule (λ f. expect sym.Newline >>= (λ z. pure (f t (words w)))))))) ≡ from_import
 unfolding from_import
 from_import_is = ap (λ (p : Symbol → Parser Item). expect sym.From >>= p) (fun_ext (λ t.
     dotted_path (λ ws. expect sym.Import >>= (λ u. follow names_rule (λ f. expect sym.Newline >>= (λ z. pure (f t ws)))))
     ∙ ap (λ (p : List Word → Parser Item). dotted >>= (λ ws. expect sym.Import >>= (λ u. p ws))) (fun_ext (λ ws.
-        flip (follow_then names_rule refl (λ f. pure (f t ws)) (λ x. (λ z. x) <$> expect sym.Newline))
-        ∙ ap (λ (p : Parser Item). p >>= (λ x. (λ z. x) <$> expect sym.Newline)) (names_is t ws)))))
+    flip (follow_then names_rule refl (λ f. pure (f t ws)) (λ x. (λ z. x) <$> expect sym.Newline))
+    ∙ ap (λ (p : Parser Item). p >>= (λ x. (λ z. x) <$> expect sym.Newline)) (names_is t ws)))))
 
 import_is : full Part.Import ≡ import
 unfolding rule ahead import
@@ -316,7 +316,7 @@ unfolding rule ahead definition
 definition_is =
     part_is Part.Const
     ∙ ap (λ (p : Symbol → Parser Item). expect sym.Name >>= (λ n. expect sym.Assign >>= (λ t. p n))) (fun_ext (λ n.
-        flip (then_follow constant_rule refl (λ v. (λ z. to_item.Const (word n) v) <$> expect sym.Newline)) ∙ ap (λ (p : Parser ConstValue). p >>= (λ v. (λ z. to_item.Const (word n) v) <$> expect sym.Newline)) constant_is))
+    flip (then_follow constant_rule refl (λ v. (λ z. to_item.Const (word n) v) <$> expect sym.Newline)) ∙ ap (λ (p : Parser ConstValue). p >>= (λ v. (λ z. to_item.Const (word n) v) <$> expect sym.Newline)) constant_is))
 
 -- ---- modules
 

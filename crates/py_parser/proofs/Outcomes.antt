@@ -65,6 +65,6 @@ many_then {A = A} r m p k ts =
     ap (λ o. and_then o k) (many_is r m ts)
     ∙ ap (λ h. h ts) (either_then (first r) (run r >>= (λ x. (λ xs. x ∷ xs) <$> run (many r))) (pure []) k)
     ∙ ap (λ (h : Parser _). either (first r) h (k []) ts)
-        (regroup (run r) (λ x. (λ xs. x ∷ xs) <$> run (many r)) k
-        ∙ ap (λ (h : Value A → Parser _). run r >>= h) (fun_ext (λ x. regroup (run (many r)) (λ xs. pure (x ∷ xs)) k))
-        ∙ fun_ext (λ i. flip (follow_is r (λ x. run (many r) >>= (λ xs. k (x ∷ xs))) p i)))
+    (regroup (run r) (λ x. (λ xs. x ∷ xs) <$> run (many r)) k
+    ∙ ap (λ (h : Value A → Parser _). run r >>= h) (fun_ext (λ x. regroup (run (many r)) (λ xs. pure (x ∷ xs)) k))
+    ∙ fun_ext (λ i. flip (follow_is r (λ x. run (many r) >>= (λ xs. k (x ∷ xs))) p i)))

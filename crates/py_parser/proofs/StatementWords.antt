@@ -180,8 +180,8 @@ lines_then : {B : Type 0} (k : List Stmt → Parser B) → (full Part.Stmt >>= (
 unfolding lines again
 lines_then k =
     ap (λ (h : Stmt → Parser _). full Part.Stmt >>= h) (fun_ext (λ s.
-        regroup (run (many (part Part.Stmt))) (λ ss. pure ss) (λ ss. k (s ∷ ss))
-        ∙ flip (regroup (run (many (part Part.Stmt))) (λ ss. pure (s ∷ ss)) k)))
+    regroup (run (many (part Part.Stmt))) (λ ss. pure ss) (λ ss. k (s ∷ ss))
+    ∙ flip (regroup (run (many (part Part.Stmt))) (λ ss. pure (s ∷ ss)) k)))
     ∙ flip (regroup (full Part.Stmt) (λ s. again (part Part.Stmt) (s ∷ [])) k)
 
 pub lines_are : (ss : List Stmt) (ts : List Symbol) → again (part Part.Stmt) ss ts ≡ cond (begins_stmt (peek ts)) (and_then (full Part.Stmt ts) (λ s. again (part Part.Stmt) (ss ++ s ∷ []))) (took ss ts)
@@ -199,9 +199,9 @@ unfolding rule ahead block indented begins_simple
 block_is =
     part_is Part.Block
     ∙ ap (λ (h : Parser Block). either simple_starters h (expect sym.Newline >>= (λ t. expect sym.Indent >>= (λ u. full Part.Stmt >>= (λ s. again (part Part.Stmt) [] >>= (λ ss. expect sym.Dedent >>= (λ z. pure (to_block.Lines (s ∷ ss)))))))))
-        (line_then (λ s. pure (to_block.Line s)))
+    (line_then (λ s. pure (to_block.Line s)))
     ∙ ap (λ (h : Parser Block). either simple_starters ((λ s. to_block.Line s) <$> line) (expect sym.Newline >>= (λ t. expect sym.Indent >>= (λ u. h))))
-        (lines_then (λ ss. (λ z. to_block.Lines ss) <$> expect sym.Dedent))
+    (lines_then (λ ss. (λ z. to_block.Lines ss) <$> expect sym.Dedent))
 
 -- an expression, a colon and a block
 headed_then : {B : Type 0} (k : Tree → Block → Parser B) → (full Part.Expr >>= (λ x. expect sym.Colon >>= (λ c. full Part.Block >>= (λ b. k x b)))) ≡ (headed >>= (λ h. k h.0 h.1))
@@ -210,8 +210,8 @@ headed_then k =
     ap (λ (p : Parser Block). full Part.Expr >>= (λ x. expect sym.Colon >>= (λ c. p >>= (λ b. k x b)))) block_is
     ∙ flip (regroup (full Part.Expr) (λ x. expect sym.Colon >>= (λ c. (λ b. (x, b)) <$> block)) (λ h. k h.0 h.1)
     ∙ ap (λ (p : Tree → Parser _). full Part.Expr >>= p) (fun_ext (λ x.
-        regroup (expect sym.Colon) (λ c. (λ b. (x, b)) <$> block) (λ h. k h.0 h.1)
-        ∙ ap (λ (p : Parser _). expect sym.Colon >>= (λ c. p)) (regroup block (λ b. pure (x, b)) (λ h. k h.0 h.1)))))
+    regroup (expect sym.Colon) (λ c. (λ b. (x, b)) <$> block) (λ h. k h.0 h.1)
+    ∙ ap (λ (p : Parser _). expect sym.Colon >>= (λ c. p)) (regroup block (λ b. pure (x, b)) (λ h. k h.0 h.1)))))
 
 abbrev branch_rule : Rule (Code.Pair Code.Symbol (Code.Pair Code.Tree (Code.Pair Code.Symbol Code.Block)))
 branch_rule = one sym.Elif ~ part Part.Expr ~ one sym.Colon ~ part Part.Block

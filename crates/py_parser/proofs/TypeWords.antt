@@ -55,7 +55,7 @@ pub dotted_then : {B : Type 0} (k : Place → List Word → Parser B) (i : List 
 unfolding dotted
 dotted_then k i =
     same_then (expect sym.Name i) _ (λ t. gather (λ q. word q.1) (one sym.Dot ~ one sym.Name) (word t ∷ []) >>= k t.place)
-        (λ t j. ap (λ (h : Parser _). h j) (gathered (λ q. word q.1) (one sym.Dot ~ one sym.Name) (word t) (k t.place)))
+    (λ t j. ap (λ (h : Parser _). h j) (gathered (λ q. word q.1) (one sym.Dot ~ one sym.Name) (word t) (k t.place)))
     ∙ place_kept sym.Name (λ p t. gather (λ q. word q.1) (one sym.Dot ~ one sym.Name) (word t ∷ []) >>= k p) i
     ∙ flip (assoc (expect sym.Name i) (λ t. gather (λ q. word q.1) (one sym.Dot ~ one sym.Name) (word t ∷ [])) (k (place_at i)))
 
@@ -73,8 +73,8 @@ unfolding in_brackets
 in_brackets_is k =
     regroup (expect sym.LBracket) (λ t. type_arguments >>= (λ q. (λ z. q) <$> expect sym.RBracket)) k
     ∙ ap (λ (h : Parser _). expect sym.LBracket >>= (λ t. h))
-        (regroup type_arguments (λ q. (λ z. q) <$> expect sym.RBracket) k
-        ∙ ap (λ (h : List TypeArg × Bool → Parser _). type_arguments >>= h) (fun_ext (λ q. regroup (expect sym.RBracket) (λ z. pure q) k)))
+    (regroup type_arguments (λ q. (λ z. q) <$> expect sym.RBracket) k
+    ∙ ap (λ (h : List TypeArg × Bool → Parser _). type_arguments >>= h) (fun_ext (λ q. regroup (expect sym.RBracket) (λ z. pure q) k)))
 
 abbrev of_type : Place → List Word → Parser TypeTree
 of_type p ws = on sym.LBracket (in_brackets >>= (λ q. pure (type_tree.Of p ws q.0 q.1))) (pure (type_tree.Named p ws))

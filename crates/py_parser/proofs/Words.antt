@@ -84,7 +84,7 @@ unfolding rule ahead comparison compares
 comparison_is ts =
     full_is Part.Cmp ts
     ∙ ap (λ (h : Tree → Parser Tree). (full Part.BitOr >>= (λ x. either comparers (h x) (pure x))) ts)
-        (fun_ext (λ x. flip (then_follow compared_rule refl (λ q. pure (tree.Compare (place_of x) q.0 x q.1))) ∙ ap (λ (h : Parser (CompareOp × Tree)). h >>= (λ q. pure (tree.Compare (place_of x) q.0 x q.1))) compared_is))
+    (fun_ext (λ x. flip (then_follow compared_rule refl (λ q. pure (tree.Compare (place_of x) q.0 x q.1))) ∙ ap (λ (h : Parser (CompareOp × Tree)). h >>= (λ q. pure (tree.Compare (place_of x) q.0 x q.1))) compared_is))
 
 signs : (i : List Symbol) (b c d : Bool) → (k : UnaryOp → Symbol → Parser Tree) (p : Parser Tree) →
     cond (b || false) (and_then (cond b (take_symbol i) (stuck i)) (k unary.Plus)) (cond (c || false) (and_then (cond c (take_symbol i) (stuck i)) (k unary.Minus)) (cond (d || false) (and_then (cond d (take_symbol i) (stuck i)) (k unary.Invert)) (p i)))
@@ -118,7 +118,7 @@ unfolding rule ahead power
 power_is ts =
     full_is Part.Power ts
     ∙ flip (ap (λ (h : Tree → Parser Tree). (full Part.Post >>= (λ x. on sym.Power (h x) (pure x))) ts)
-        (fun_ext (λ x. ap (λ (h : Parser Tree). h >>= (λ y. pure (tree.Power (place_of x) x y))) exponent_is ∙ then_follow exponent_rule refl (λ y. pure (tree.Power (place_of x) x y)))))
+    (fun_ext (λ x. ap (λ (h : Parser Tree). h >>= (λ y. pure (tree.Power (place_of x) x y))) exponent_is ∙ then_follow exponent_rule refl (λ y. pure (tree.Power (place_of x) x y)))))
 
 -- ---- what stands behind an atom
 
@@ -146,8 +146,8 @@ subscripted_is x =
     ap (λ (h : Parser (Tree → Tree)). h >>= (λ f. pure (f x))) (part_is Part.Subscript)
     ∙ follow_then (ahead Part.Subscript) refl pure (λ f. pure (f x))
     ∙ ap (λ (h : Parser Tree). on sym.Colon (follow end_rule (λ y. pure (tree.Slice (place_of x) x None y))) h)
-        (exprs_then (λ e. either (fit_for (is_single e) sym.Colon) (follow end_rule (λ y. pure (tree.Slice (place_of x) x (head_of e.items) y))) (pure (tree.Index (place_of x) x e.items e.comma)))
-        ∙ ap (λ (h : List Tree → Parser Tree). exprs >>= (λ q. either (fit_for (single_in q.0 q.1) sym.Colon) (h q.0) (pure (tree.Index (place_of x) x q.0 q.1)))) (fun_ext (λ xs. flip (end_then (λ y. pure (tree.Slice (place_of x) x (head_of xs) y))))))
+    (exprs_then (λ e. either (fit_for (is_single e) sym.Colon) (follow end_rule (λ y. pure (tree.Slice (place_of x) x (head_of e.items) y))) (pure (tree.Index (place_of x) x e.items e.comma)))
+    ∙ ap (λ (h : List Tree → Parser Tree). exprs >>= (λ q. either (fit_for (single_in q.0 q.1) sym.Colon) (h q.0) (pure (tree.Index (place_of x) x q.0 q.1)))) (fun_ext (λ xs. flip (end_then (λ y. pure (tree.Slice (place_of x) x (head_of xs) y))))))
     ∙ ap (λ (h : Parser Tree). on sym.Colon h (from_exprs x)) (flip (end_then (λ y. pure (tree.Slice (place_of x) x None y))))
 
 in_call_is : {B : Type 0} (k : List Arg × Bool → Parser B) → (in_call >>= k)
@@ -156,9 +156,9 @@ unfolding in_call any_arguments begins
 in_call_is k =
     regroup (expect sym.LParen) (λ t. any_arguments >>= (λ q. (λ z. q) <$> expect sym.RParen)) k
     ∙ ap (λ (h : Parser _). expect sym.LParen >>= (λ t. h))
-        (regroup any_arguments (λ q. (λ z. q) <$> expect sym.RParen) k
-        ∙ ap (λ (h : List Arg × Bool → Parser _). any_arguments >>= h) (fun_ext (λ q. regroup (expect sym.RParen) (λ z. pure q) k))
-        ∙ either_then starters arguments (pure ([], false)) (λ q. expect sym.RParen >>= (λ z. k q)))
+    (regroup any_arguments (λ q. (λ z. q) <$> expect sym.RParen) k
+    ∙ ap (λ (h : List Arg × Bool → Parser _). any_arguments >>= h) (fun_ext (λ q. regroup (expect sym.RParen) (λ z. pure q) k))
+    ∙ either_then starters arguments (pure ([], false)) (λ q. expect sym.RParen >>= (λ z. k q)))
 
 suffix_chain : Tree → Sym → Parser Tree
 suffix_chain x s = λ i. cond (has s (sym.Dot ∷ [])) (member x i) (cond (has s (sym.LParen ∷ [])) (call x i) (index x i))
@@ -173,9 +173,9 @@ suffix_is : (x : Tree) → follow suffix_rule (λ f. pure (f x)) ≡ suffix x
 unfolding suffix suffix_chain member call index arguments
 suffix_is x =
     ap (λ (h : Parser Tree). either (sym.Dot ∷ []) (member x) (either (sym.LParen ∷ []) h (expect sym.LBracket >>= (λ t. full Part.Subscript >>= (λ f. expect sym.RBracket >>= (λ z. pure (f x)))))))
-        (flip (in_call_is (λ q. pure (tree.Call (place_of x) x q.0 q.1))))
+    (flip (in_call_is (λ q. pure (tree.Call (place_of x) x q.0 q.1))))
     ∙ ap (λ (h : Parser Tree). either (sym.Dot ∷ []) (member x) (either (sym.LParen ∷ []) (call x) (expect sym.LBracket >>= (λ t. h))))
-        (flip (regroup (full Part.Subscript) (λ f. pure (f x)) (λ y. (λ z. y) <$> expect sym.RBracket)) ∙ ap (λ (h : Parser Tree). h >>= (λ y. (λ z. y) <$> expect sym.RBracket)) (subscripted_is x))
+    (flip (regroup (full Part.Subscript) (λ f. pure (f x)) (λ y. (λ z. y) <$> expect sym.RBracket)) ∙ ap (λ (h : Parser Tree). h >>= (λ y. (λ z. y) <$> expect sym.RBracket)) (subscripted_is x))
     ∙ fun_ext (λ i. suffix_cases x (peek i) i)
 
 pub suffixes_is : (x : Tree) (ts : List Symbol) → suffixes x ts ≡ cond (goes_on (peek ts)) (and_then (suffix x ts) suffixes) (took x ts)
@@ -183,7 +183,7 @@ unfolding suffixes goes_on
 suffixes_is x ts =
     many_then suffix_rule refl refl (λ fs. pure (applied x fs)) ts
     ∙ ap (λ (h : Parser Tree). either (sym.Dot ∷ sym.LParen ∷ sym.LBracket ∷ []) h (pure x) ts)
-        (flip (follow_then suffix_rule refl (λ f. pure (f x)) suffixes) ∙ ap (λ (h : Parser Tree). h >>= suffixes) (suffix_is x))
+    (flip (follow_then suffix_rule refl (λ f. pure (f x)) suffixes) ∙ ap (λ (h : Parser Tree). h >>= suffixes) (suffix_is x))
 
 post_is : (ts : List Symbol) → full Part.Post ts ≡ post ts
 unfolding rule ahead post suffixes
@@ -203,8 +203,8 @@ in_brackets_is : (o c : Sym) (k : Symbol → List Tree × Bool → Tree) →
     ≡ (expect o >>= (λ t. (λ q. k t q) <$> enclosed c))
 in_brackets_is o c k =
     ap (λ (h : Symbol → Parser Tree). expect o >>= h) (fun_ext (λ t.
-        ap (λ (h : Parser Tree). either starters h (expect c >>= (λ z. pure (k t ([], false))))) (exprs_then (λ e. expect c >>= (λ z. pure (k t (e.items, e.comma)))))
-        ∙ flip (enclosed_is c (λ q. pure (k t q)))))
+    ap (λ (h : Parser Tree). either starters h (expect c >>= (λ z. pure (k t ([], false))))) (exprs_then (λ e. expect c >>= (λ z. pure (k t (e.items, e.comma)))))
+    ∙ flip (enclosed_is c (λ q. pure (k t q)))))
 
 atom_chain : Sym → Parser Tree
 atom_chain s = λ i.
