@@ -6,7 +6,7 @@ use Rattle.algopy_library.specs.declared.scalar.Scalar.{Scalar}
 use Rattle.algopy_library.specs.declared.scalar.Scalar.TheVariants as scalar
 use Rattle.awst.specs.declared.ty.Ty.{Ty}
 use Rattle.awst.specs.declared.ty.Ty.TheVariants as ty
-use Rattle.source_names.specs.declared.types.SourceType.{SourceType}
+use Rattle.source_names.specs.declared.types.SourceType.{SourceType, out-SourceType}
 use Rattle.source_names.specs.declared.types.SourceType.TheOpen.{SourceType-F}
 use Rattle.source_names.specs.declared.types.SourceType.TheFolds.{fold-SourceType}
 
@@ -105,3 +105,16 @@ scalar_in (tuple ts) = None
 -- the type's scalar, if it is one
 abbrev pub scalar_of : SourceType → Option Scalar
 scalar_of t = scalar_in (plain t)
+
+abbrev pub nothing_in : T → Bool
+nothing_in (one s) = false
+nothing_in nothing = true
+nothing_in (tuple ts) = false
+
+-- whether it is what a function without a result gives
+abbrev pub is_nothing : SourceType → Bool
+is_nothing t = nothing_in (plain t)
+
+-- the types of a tuple's parts
+abbrev pub tuple_parts : SourceType → Option (List SourceType)
+tuple_parts t = elim (out-SourceType t) as (λ _. Option (List SourceType)) [ SourceType-F.Scalar s ↦ None | SourceType-F.Nothing ↦ None | SourceType-F.Tuple ts ↦ Some ts ]
