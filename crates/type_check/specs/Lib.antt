@@ -1,3 +1,6 @@
 pub mod Meanings
 pub mod Calls
 pub mod Expressions
+pub mod Lines
+pub mod Targets
+pub mod Statements
