@@ -1,0 +1,12 @@
+pub mod Types
+pub mod Values
+pub mod Forms
+pub mod Table
+pub mod Tree
+pub mod Meaning
+pub mod Places
+pub mod Plain
+pub mod Prescribed
+pub mod Paths
+pub mod Shapes
+pub mod Sound
