@@ -7,3 +7,4 @@ pub mod Annotations
 pub mod Headers
 pub mod Modules
 pub mod Classes
+pub mod Equations

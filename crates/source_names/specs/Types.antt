@@ -115,6 +115,11 @@ nothing_in (tuple ts) = false
 abbrev pub is_nothing : SourceType → Bool
 is_nothing t = nothing_in (plain t)
 
+abbrev pub parts_in : SourceType-F SourceType → Option (List SourceType)
+parts_in (SourceType-F.Scalar s) = None
+parts_in SourceType-F.Nothing = None
+parts_in (SourceType-F.Tuple ts) = Some ts
+
 -- the types of a tuple's parts
 abbrev pub tuple_parts : SourceType → Option (List SourceType)
-tuple_parts t = elim (out-SourceType t) as (λ _. Option (List SourceType)) [ SourceType-F.Scalar s ↦ None | SourceType-F.Nothing ↦ None | SourceType-F.Tuple ts ↦ Some ts ]
+tuple_parts t = parts_in (out-SourceType t)
