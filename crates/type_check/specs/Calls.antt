@@ -163,13 +163,13 @@ hope_at (a_type s) i = hope.Free
 hope_at from_hex i = hope.Free
 hope_at logs i = hope.Free
 hope_at ranges i = range_hope i
-hope_at no_callee i = hope.Unknown
+hope_at no_callee i = hope.Free
 hope_at unknown_callee i = hope.Unknown
 
 abbrev pub slot_hope : Callee → Slot → Hope
 slot_hope c (wrong r p) = hope.Unknown
 slot_hope c (at i) = hope_at c i
-slot_hope c beyond = hope.Unknown
+slot_hope c beyond = hope.Free
 
 -- whether a literal stays one there: where a type is called, in `from_hex`, as the step of `urange`, and behind the last parameter
 abbrev pub takes_literal : Callee → ℕ → Bool
@@ -310,8 +310,12 @@ abbrev pub fits_param : Option SourceType → Typed → Valued
 fits_param None t = no_value
 fits_param (Some u) t = fits_type u t
 
+abbrev pub fits_parameter : Option Parameter → Typed → Valued
+fits_parameter None t = value_breaks rule.P15 t.expr.place
+fits_parameter (Some p) t = fits_param p.ty t
+
 abbrev pub param_test : Signature → ℕ → Typed → Valued
-param_test s i t = fits_param (param_type (slice_get s.params i)) t
+param_test s i t = fits_parameter (slice_get s.params i) t
 
 abbrev pub called : Place → ℕ → Option SourceType → List ℕ → List Expr → Judged
 called p n None order es = unknown

@@ -541,7 +541,7 @@ abbrev mutual
 
   pub items : Scope → Exs → Items
   items s no_exprs = no_items
-  items s (an_expr e es) = and_item (operand_of (place_of e) (judge s (context false hope.Unknown) e)) (items s es)
+  items s (an_expr e es) = and_item (operand_of (place_of e) (judge s freely e)) (items s es)
 
   pub end : Scope → Bool → Hope → Maybe → Ended
   end s b h absent = absent_end

@@ -6,3 +6,4 @@ pub mod Targets
 pub mod Statements
 pub mod Functions
 pub mod Whole
+pub mod Laws
