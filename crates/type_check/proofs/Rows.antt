@@ -23,11 +23,11 @@ use Rattle.source_names.specs.declared.signature.Signature.{Signature}
 use Rattle.source_names.specs.Source.{Ex, name, number, text, bytes, flag, paren, tuple, display, index, slice, call, unary, binary, choose, Exs, no_exprs, an_expr, Maybe, absent, present, Args, no_args, an_arg, does, and_then, is_in}
 use Rattle.source_names.specs.Source as source
 use Rattle.source_names.specs.Equations.{plain-Scalar, plain-Nothing, plain-Tuple, parts-Scalar, parts-Tuple}
-use Rattle.type_check.specs.declared.meaning.Hope.TheVariants as hope
-use Rattle.type_check.specs.declared.scope.Scope.{Scope}
-use Rattle.type_check.specs.declared.scope.Local.{Local}
-use Rattle.type_check.specs.declared.scope.Status.TheVariants as status
-use Rattle.type_check.specs.Meanings.{Judged, broken, freely, context, value, condition}
+use Rattle.meaning_rules.specs.declared.meaning.Hope.TheVariants as hope
+use Rattle.meaning_rules.specs.declared.scope.Scope.{Scope}
+use Rattle.meaning_rules.specs.declared.scope.Local.{Local}
+use Rattle.meaning_rules.specs.declared.scope.Status.TheVariants as status
+use Rattle.meaning_rules.specs.Meanings.{Judged, broken, freely, context, value, condition}
 use Rattle.type_check.specs.Expressions.{judge}
 use Rattle.type_check.specs.Lines.{Line, skip, leave, give, claim, alone, assign, augment, St, line, if_else, while_do, for_in, Sts, no_stmts, a_stmt, Branches, otherwise, a_branch}
 use Rattle.type_check.specs.Statements.{checks, Done}

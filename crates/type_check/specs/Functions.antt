@@ -18,10 +18,10 @@ use Rattle.source_names.specs.declared.signature.Signature.{Signature}
 use Rattle.source_names.specs.Types.{typed, is_nothing}
 use Rattle.source_names.specs.Faults.{breaks}
 use Rattle.source_names.specs.Headers.{signature, all_clashes}
-use Rattle.type_check.specs.declared.scope.Scope.{Scope}
-use Rattle.type_check.specs.declared.scope.Local.{Local}
-use Rattle.type_check.specs.declared.scope.Status.{Status}
-use Rattle.type_check.specs.declared.scope.Status.TheVariants as status
+use Rattle.meaning_rules.specs.declared.scope.Scope.{Scope}
+use Rattle.meaning_rules.specs.declared.scope.Local.{Local}
+use Rattle.meaning_rules.specs.declared.scope.Status.{Status}
+use Rattle.meaning_rules.specs.declared.scope.Status.TheVariants as status
 use Rattle.type_check.specs.Lines.{block_of}
 use Rattle.type_check.specs.Targets.{all_targets, first_ones}
 use Rattle.type_check.specs.Statements.{Done, checks, seeing}

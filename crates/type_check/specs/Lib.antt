@@ -1,5 +1,3 @@
-pub mod Meanings
-pub mod Calls
 pub mod Expressions
 pub mod Lines
 pub mod Targets

@@ -27,22 +27,23 @@ use Rattle.source_names.specs.declared.types.SourceType.TheVariants as ty
 use Rattle.source_names.specs.Types.{same_type, scalar_of, tuple_parts, is_nothing}
 use Rattle.source_names.specs.Annotations.{Written, written, of_value}
 use Rattle.source_names.specs.Source.{Ex, Exs, no_exprs, an_expr, does, place_of}
-use Rattle.type_check.specs.declared.meaning.Hope.{Hope}
-use Rattle.type_check.specs.declared.meaning.Hope.TheVariants as hope
-use Rattle.type_check.specs.declared.meaning.Expect.TheVariants as expect
-use Rattle.type_check.specs.declared.meaning.Context.{Context}
-use Rattle.type_check.specs.declared.meaning.Typed.{Typed}
-use Rattle.type_check.specs.declared.meaning.Lit.{Lit}
-use Rattle.type_check.specs.declared.meaning.Lit.TheVariants as lit
-use Rattle.type_check.specs.declared.meaning.Range.{Range}
-use Rattle.type_check.specs.declared.meaning.Meaning.{Meaning}
-use Rattle.type_check.specs.declared.meaning.Meaning.TheVariants as meaning
-use Rattle.type_check.specs.declared.scope.Scope.{Scope}
-use Rattle.type_check.specs.declared.scope.Local.{Local}
-use Rattle.type_check.specs.declared.scope.Status.{Status}
-use Rattle.type_check.specs.declared.scope.Status.TheVariants as status
-use Rattle.type_check.specs.Meanings.{Judged, Valued, Operand, a_value, a_literal, missing, broken, broken_all, no_value, value_breaks, a_typed, literal, operand_of, value, required, fits_type, hoped, context, freely, condition}
-use Rattle.type_check.specs.Expressions.{judge, local_of, read_status, has_between, operation_at, is_missing}
+use Rattle.meaning_rules.specs.declared.meaning.Hope.{Hope}
+use Rattle.meaning_rules.specs.declared.meaning.Hope.TheVariants as hope
+use Rattle.meaning_rules.specs.declared.meaning.Expect.TheVariants as expect
+use Rattle.meaning_rules.specs.declared.meaning.Context.{Context}
+use Rattle.meaning_rules.specs.declared.meaning.Typed.{Typed}
+use Rattle.meaning_rules.specs.declared.meaning.Lit.{Lit}
+use Rattle.meaning_rules.specs.declared.meaning.Lit.TheVariants as lit
+use Rattle.meaning_rules.specs.declared.meaning.Range.{Range}
+use Rattle.meaning_rules.specs.declared.meaning.Meaning.{Meaning}
+use Rattle.meaning_rules.specs.declared.meaning.Meaning.TheVariants as meaning
+use Rattle.meaning_rules.specs.declared.scope.Scope.{Scope}
+use Rattle.meaning_rules.specs.declared.scope.Local.{Local}
+use Rattle.meaning_rules.specs.declared.scope.Status.{Status}
+use Rattle.meaning_rules.specs.declared.scope.Status.TheVariants as status
+use Rattle.meaning_rules.specs.Meanings.{Judged, Valued, Operand, a_value, a_literal, missing, broken, broken_all, no_value, value_breaks, a_typed, literal, operand_of, value, required, fits_type, hoped, context, freely, condition}
+use Rattle.meaning_rules.specs.Operations.{local_of, read_status, has_between, operation_at, is_missing}
+use Rattle.type_check.specs.Expressions.{judge}
 use Rattle.type_check.specs.Lines.{Line, skip, leave, again, give, claim, delete, alone, assign, augment, annotate, St, line, if_else, while_do, for_in, Sts, no_stmts, a_stmt, Branches, otherwise, a_branch}
 use Rattle.type_check.specs.Targets.{target_name, unpacked}
 

@@ -17,8 +17,8 @@ use Rattle.source_names.specs.declared.signature.Signature.{Signature}
 use Rattle.source_names.specs.Headers.{signature, divided}
 use Rattle.source_names.specs.Modules.{entries, constants, signatures, names_faults}
 use Rattle.source_names.specs.Classes.{Base, a_contract, another, unknown, base_of, functions, methods_from, class_signatures, classes, all_class_faults, no_contract, first_from, is_approval, is_clear, has_myself}
-use Rattle.type_check.specs.declared.scope.Scope.{Scope}
-use Rattle.type_check.specs.declared.scope.Method.{Method}
+use Rattle.meaning_rules.specs.declared.scope.Scope.{Scope}
+use Rattle.meaning_rules.specs.declared.scope.Method.{Method}
 use Rattle.type_check.specs.Functions.{notes_of, end_of, typed_function, body_faults}
 
 -- ---- functions with what they see

@@ -29,17 +29,17 @@ use Rattle.source_names.specs.declared.named.Thing.TheVariants as thing
 use Rattle.source_names.specs.declared.signature.Parameter.{Parameter}
 use Rattle.source_names.specs.declared.signature.Signature.{Signature}
 use Rattle.source_names.specs.Types.{typed, same_type, scalar_of}
-use Rattle.type_check.specs.declared.meaning.Hope.{Hope}
-use Rattle.type_check.specs.declared.meaning.Hope.TheVariants as hope
-use Rattle.type_check.specs.declared.meaning.Context.{Context}
-use Rattle.type_check.specs.declared.meaning.Typed.{Typed}
-use Rattle.type_check.specs.declared.meaning.Lit.{Lit}
-use Rattle.type_check.specs.declared.meaning.Lit.TheVariants as lit
-use Rattle.type_check.specs.declared.meaning.Range.{Range}
-use Rattle.type_check.specs.declared.meaning.Meaning.{Meaning}
-use Rattle.type_check.specs.declared.meaning.Meaning.TheVariants as meaning
-use Rattle.type_check.specs.declared.scope.Scope.{Scope}
-use Rattle.type_check.specs.Meanings.{Judged, Valued, Operand, a_value, a_literal, missing, Operated, broken, unknown, breaks, says, after, a_node, node, no_value, value_breaks, a_typed, literal, lit_node, operand_of, settled, fits_type, hoped, context, truth_of}
+use Rattle.meaning_rules.specs.declared.meaning.Hope.{Hope}
+use Rattle.meaning_rules.specs.declared.meaning.Hope.TheVariants as hope
+use Rattle.meaning_rules.specs.declared.meaning.Context.{Context}
+use Rattle.meaning_rules.specs.declared.meaning.Typed.{Typed}
+use Rattle.meaning_rules.specs.declared.meaning.Lit.{Lit}
+use Rattle.meaning_rules.specs.declared.meaning.Lit.TheVariants as lit
+use Rattle.meaning_rules.specs.declared.meaning.Range.{Range}
+use Rattle.meaning_rules.specs.declared.meaning.Meaning.{Meaning}
+use Rattle.meaning_rules.specs.declared.meaning.Meaning.TheVariants as meaning
+use Rattle.meaning_rules.specs.declared.scope.Scope.{Scope}
+use Rattle.meaning_rules.specs.Meanings.{Judged, Valued, Operand, a_value, a_literal, missing, Operated, broken, unknown, breaks, says, after, a_node, node, no_value, value_breaks, a_typed, literal, lit_node, operand_of, settled, fits_type, hoped, context, truth_of}
 
 -- ---- what is called
 

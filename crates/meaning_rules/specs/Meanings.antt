@@ -19,17 +19,17 @@ use Rattle.source_names.specs.declared.types.SourceType.{SourceType}
 use Rattle.source_names.specs.declared.types.SourceType.TheVariants as ty
 use Rattle.source_names.specs.declared.named.Thing.{Thing}
 use Rattle.source_names.specs.Types.{typed, same_type, scalar_of, tuple_parts, is_nothing, same_scalar}
-use Rattle.type_check.specs.declared.meaning.Hope.{Hope}
-use Rattle.type_check.specs.declared.meaning.Hope.TheVariants as hope
-use Rattle.type_check.specs.declared.meaning.Expect.{Expect}
-use Rattle.type_check.specs.declared.meaning.Expect.TheVariants as expect
-use Rattle.type_check.specs.declared.meaning.Context.{Context}
-use Rattle.type_check.specs.declared.meaning.Typed.{Typed}
-use Rattle.type_check.specs.declared.meaning.Lit.{Lit}
-use Rattle.type_check.specs.declared.meaning.Lit.TheVariants as lit
-use Rattle.type_check.specs.declared.meaning.Range.{Range}
-use Rattle.type_check.specs.declared.meaning.Meaning.{Meaning}
-use Rattle.type_check.specs.declared.meaning.Meaning.TheVariants as meaning
+use Rattle.meaning_rules.specs.declared.meaning.Hope.{Hope}
+use Rattle.meaning_rules.specs.declared.meaning.Hope.TheVariants as hope
+use Rattle.meaning_rules.specs.declared.meaning.Expect.{Expect}
+use Rattle.meaning_rules.specs.declared.meaning.Expect.TheVariants as expect
+use Rattle.meaning_rules.specs.declared.meaning.Context.{Context}
+use Rattle.meaning_rules.specs.declared.meaning.Typed.{Typed}
+use Rattle.meaning_rules.specs.declared.meaning.Lit.{Lit}
+use Rattle.meaning_rules.specs.declared.meaning.Lit.TheVariants as lit
+use Rattle.meaning_rules.specs.declared.meaning.Range.{Range}
+use Rattle.meaning_rules.specs.declared.meaning.Meaning.{Meaning}
+use Rattle.meaning_rules.specs.declared.meaning.Meaning.TheVariants as meaning
 
 -- what is said of an expression
 pub record Judged : Type 0 where
