@@ -11,16 +11,16 @@ use Rattle.source_names.specs.declared.named.Thing.{Thing}
 use Rattle.source_names.specs.declared.named.Thing.TheVariants as thing
 use Rattle.source_names.specs.declared.signature.Parameter.{Parameter}
 use Rattle.source_names.specs.declared.signature.Signature.{Signature}
-use Rattle.type_check.specs.declared.meaning.Hope.{Hope}
-use Rattle.type_check.specs.declared.meaning.Hope.TheVariants as hope
-use Rattle.type_check.specs.declared.meaning.Expect.{Expect}
-use Rattle.type_check.specs.declared.meaning.Expect.TheVariants as expect
-use Rattle.type_check.specs.declared.meaning.Context.{Context}
-use Rattle.type_check.specs.declared.meaning.Meaning.{Meaning}
-use Rattle.type_check.specs.declared.meaning.Meaning.TheVariants as meaning
-use Rattle.type_check.specs.declared.scope.Scope.{Scope}
-use Rattle.type_check.specs.Meanings.{Judged}
-use Rattle.type_check.specs.Expressions.{judge_name, thing_member}
+use Rattle.meaning_rules.specs.declared.meaning.Hope.{Hope}
+use Rattle.meaning_rules.specs.declared.meaning.Hope.TheVariants as hope
+use Rattle.meaning_rules.specs.declared.meaning.Expect.{Expect}
+use Rattle.meaning_rules.specs.declared.meaning.Expect.TheVariants as expect
+use Rattle.meaning_rules.specs.declared.meaning.Context.{Context}
+use Rattle.meaning_rules.specs.declared.meaning.Meaning.{Meaning}
+use Rattle.meaning_rules.specs.declared.meaning.Meaning.TheVariants as meaning
+use Rattle.meaning_rules.specs.declared.scope.Scope.{Scope}
+use Rattle.meaning_rules.specs.Meanings.{Judged}
+use Rattle.meaning_rules.specs.Operations.{judge_name, thing_member}
 
 -- no broken rule is noted
 abbrev pub Clean : List Note → Type 0
