@@ -142,10 +142,6 @@ slot _ i u k p = library_slot i k
 
 -- ---- what is hoped of an argument
 
-abbrev pub param_type : Option Parameter → Option SourceType
-param_type None = None
-param_type (Some p) = p.ty
-
 abbrev pub admits_hope : Admits → Hope
 admits_hope class.Number = hope.Wants (ty.Scalar scalar.UInt64)
 admits_hope class.Bytes = hope.Wants (ty.Scalar scalar.Bytes)
@@ -156,8 +152,13 @@ admits_hope class.Nothing = hope.Free
 abbrev pub range_hope : ℕ → Hope
 range_hope i = if nat_lt i 2 then hope.Wants (ty.Scalar scalar.UInt64) else hope.Free
 
+-- behind the last parameter nothing is expected; the count is judged at the call
+abbrev pub parameter_hope : Option Parameter → Hope
+parameter_hope None = hope.Free
+parameter_hope (Some p) = hoped p.ty
+
 abbrev pub hope_at : Callee → ℕ → Hope
-hope_at (a_function n s) i = hoped (param_type (slice_get s.params i))
+hope_at (a_function n s) i = parameter_hope (slice_get s.params i)
 hope_at (a_form f) i = admits_hope (admitted f i)
 hope_at (a_type s) i = hope.Free
 hope_at from_hex i = hope.Free

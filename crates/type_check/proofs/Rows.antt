@@ -56,7 +56,10 @@ an_entry x r = record { name = x; place = p 1; thing = thing.Library r }
 abbrev here : Scope
 here = record {
   entries = an_entry (codes "UInt64") row.UInt64 ∷ an_entry (codes "op") row.Op ∷ an_entry (codes "Txn") row.Txn ∷ an_entry (codes "log") row.Log ∷ an_entry (codes "urange") row.Urange ∷ [];
-  constants = []; functions = []; methods = []; myself = false;
+  constants = [];
+  functions = [];
+  methods = [];
+  myself = false;
   locals = (record { name = codes "x"; status = status.Fixed (Some (ty.Scalar scalar.UInt64)) }) ∷ (record { name = codes "b"; status = status.Fixed (Some (ty.Scalar scalar.Bytes)) }) ∷ (record { name = codes "u"; status = status.Unseen }) ∷ [];
 }
 

@@ -480,9 +480,13 @@ abbrev pub over_value : Place → Judged → Over
 over_value p j = let o = operand_of p j in let r = over_operand o.operand in record { notes = o.notes ++ r.notes; ty = r.ty; over = r.over }
 
 abbrev pub over : Place → Judged → Over
-over p j = elim j.meaning
-    [ meaning.Range r ↦ (let o = over_range r in record { notes = j.notes; ty = o.ty; over = o.over })
-    | meaning.Value t ↦ over_value p j | meaning.Literal q l ↦ over_value p j | meaning.Thing t ↦ over_value p j | meaning.Unknown ↦ over_value p j ]
+over p j = elim j.meaning [
+  | meaning.Range r ↦ (let o = over_range r in record { notes = j.notes; ty = o.ty; over = o.over })
+  | meaning.Value t ↦ over_value p j
+  | meaning.Literal q l ↦ over_value p j
+  | meaning.Thing t ↦ over_value p j
+  | meaning.Unknown ↦ over_value p j
+]
 
 abbrev pub turn_differs : Status → Place → Option SourceType → List Note
 turn_differs t p u = if differs t u then broken rule.P14 p ∷ [] else []

@@ -47,8 +47,14 @@ abbrev pub class_scope : List Item → Class → Func → Scope
 class_scope is c f =
     let fs = functions c.members in
     let ours = signatures (entries is) is in
-    record { entries = entries is; constants = constants is; functions = ours ++ class_signatures (entries is) fs;
-      methods = map method_of (methods_from (length ours) fs); myself = has_myself (divided true f.params); locals = [] }
+    record {
+      entries = entries is;
+      constants = constants is;
+      functions = ours ++ class_signatures (entries is) fs;
+      methods = map method_of (methods_from (length ours) fs);
+      myself = has_myself (divided true f.params);
+      locals = [];
+    }
 
 abbrev pub placed_in_module : List Item → List Func → List Placed
 placed_in_module is [] = []
