@@ -58,7 +58,7 @@ use Rattle.meaning_rules.specs.declared.scope.Scope.{Scope}
 use Rattle.meaning_rules.specs.Meanings.{Judged, Valued, Operand, a_value, a_literal, missing, Operated, broken, unknown, breaks, says, after, node, no_value, value_breaks, a_typed, literal, lit_node, lit_type, kept, operand, settled, operand_of, value, fits_type, fits_when, required, hoped, context, freely, condition, condition_of, condition_at, truth_of, part_hope, part_of_hope, part_wanted, wants, hope_or_free, whole_hope}
 use Rattle.meaning_rules.specs.Calls.{Callee, a_function, a_form, a_type, from_hex, logs, ranges, no_callee, unknown_callee, function_callee, row_callee, member_callee, thing_callee, callee, Slot, wrong, at, beyond, parameter_hope, admits_hope, hope_at, slot_hope, slot_takes, slot_number, Given, known_value, given_literal, given_operand, given, value_at, literal_at, Bound, both_known, and_given, no_arguments, Fitted, expr_of, both_exprs, and_fitted, passes, fitted, result_when, with_fitted, counted, fits_param, fits_parameter, param_test, called, call_function, form_count, form_test, form_result, call_form, log_test, call_log, empty_of, same_lit, of_literal, number_of_value, truth_when, of_value, of_known, call_type, hex_bytes, hex_data, hex_literal, call_hex, bound, Stepped, step_number, step_literal, step_of, step_one, range_from, range_to, range_parts, call_range, applied, applied_when}
 use Rattle.meaning_rules.specs.Calls as calls
-use Rattle.meaning_rules.specs.Operations.{short_literal, judge_name, found_says, thing_says, member_says, application_member, thing_member, method_pairs, value_operation, scalar_member, member_when, member_of_value, judge_member, operation_at, operated, has_between, joined_by, two_values, with_left, with_right, left_literal, right_literal, two_operands, is_missing, contained, between_operands, judge_binary, one_operated, inverted_at, has_truth_at, negated, unary_value, unary_literal, unary_operand, judge_unary, chosen_when, chosen, choose_two, beside, choose_literal, choose_first, choose_literals, choose_values, judge_choose, Parts, no_parts, both, and_part, within_limits, tuple_of, tuple_when, judge_tuple, Items, no_items, and_item, judge_display, a_number, index_scalar, index_hope, based, byte_at, byte_index, tuple_item, literal_item, item_of, no_index, tuple_index, index_of, index_when, judge_index, End, no_end, an_end, broken_end, Ended, slice_prim, sliced, is_broken, slice_of, slice_when, end_of_value, end_of_bytes, is_bytes, other_end, end_of, absent_end, judge_slice, at_meaning, in_parens}
+use Rattle.meaning_rules.specs.Operations.{short_literal, judge_name, found_says, thing_says, member_says, application_member, thing_member, method_pairs, value_operation, scalar_member, member_when, member_of_value, judge_member, operation_at, operated, has_between, joined_by, two_values, with_left, with_right, left_literal, right_literal, two_operands, is_missing, contained, between_operands, judge_binary, one_operated, inverted_at, has_truth_at, negated, unary_value, unary_literal, unary_operand, judge_unary, chosen_when, chosen, choose_two, beside, choose_literal, choose_first, choose_literals, choose_values, judge_choose, Parts, no_parts, both, and_part, types_in, within_limits, tuple_of, tuple_when, judge_tuple, Items, no_items, and_item, judge_display, a_number, index_scalar, index_hope, based, byte_at, byte_index, tuple_item, literal_item, item_of, no_index, tuple_index, index_of, index_when, judge_index, End, no_end, an_end, broken_end, Ended, slice_prim, sliced, is_broken, slice_of, slice_when, end_of_value, end_of_bytes, is_bytes, other_end, end_of, absent_end, judge_slice, at_meaning, in_parens}
 use Rattle.type_check.specs.Expressions.{judge, parts, items, end, arguments}
 use Rattle.type_check.specs.Laws.{Clean, Whole, Known, IsKnown, IsKnownThing, IsDefinite, AreDefinite, HasHope, HasSignature, AllTyped, KnowsNames}
 
@@ -261,8 +261,12 @@ slot_definite c beyond k g = tt
 abbrev IsGiven : Given → Type 0
 IsGiven g = Clean g.notes → Whole g.known
 
+known_value_whole : (i : ℕ) (t : Option Typed) → Whole t → Whole (known_value i t)
+known_value_whole i None g = absurd g
+known_value_whole i (Some t) g = tt
+
 value_given : (i : ℕ) (v : Valued) → IsWhole v → Clean v.notes → Whole (known_value i v.typed)
-value_given i v g c = elim v.typed as (λ t. Whole t → Whole (known_value i t)) [ None ↦ λ h. h | Some t ↦ λ h. tt ] (g c)
+value_given i v g c = known_value_whole i v.typed (g c)
 
 literal_given : (b : Bool) (h : Hope) (i : ℕ) (q : Place) (l : Lit) → IsDefinite h → IsGiven (given_literal b h i q l)
 literal_given true h i q l d = λ c. tt
@@ -315,10 +319,12 @@ fitted_whole test [] g = λ c. tt
 fitted_whole test (value_at i t ∷ ks) g = and_fit i (test i t) (fitted test ks) (g i t) (fitted_whole test ks g)
 fitted_whole test (literal_at i q l ∷ ks) g = and_fit i (value_breaks rule.P14 q) (fitted test ks) (breaks_whole rule.P14 q) (fitted_whole test ks g)
 
+result_known : (s : Scope) (p : Place) (x : Option (List Expr)) (own : List Expr → Judged) → Whole x → ((es : List Expr) → Known s (own es)) → Known s (result_when p x own)
+result_known s p None own g h = absurd g
+result_known s p (Some es) own g h = h es
+
 with_fitted_known : (s : Scope) (p : Place) (f : Fitted) (own : List Expr → Judged) → IsFit f → ((es : List Expr) → Known s (own es)) → Known s (with_fitted p f own)
-with_fitted_known s p f own g h = λ c.
-    elim f.exprs as (λ x. Whole x → Clean (result_when p x own).notes → IsKnown s (result_when p x own).meaning) [ None ↦ λ w. absurd w | Some es ↦ λ w. h es ]
-    (g (clean_first f.notes _ c)) (clean_rest f.notes _ c)
+with_fitted_known s p f own g h = λ c. result_known s p f.exprs own (g (clean_first f.notes _ c)) h (clean_rest f.notes _ c)
 
 counted_known : (s : Scope) (p : Place) (b : Bool) (j : Judged) → Known s j → Known s (counted p b j)
 counted_known s p b j k = clean_if b j (breaks rule.P15 p) (Known s) (λ e. k) (λ e. breaks_known s rule.P15 p)
@@ -673,7 +679,7 @@ and_parted v r g h = λ c. both_whole v.typed r.typed (g (clean_first v.notes _ 
 
 tuple_of_known : (s : Scope) (p : Place) (ts : List Typed) → Known s (tuple_of p ts)
 tuple_of_known s p [] = breaks_known s rule.P13 p
-tuple_of_known s p (t ∷ ts) = clean_if (fits_limits _) _ _ (Known s) (λ e c. tt) (λ e. breaks_known s rule.P13 p)
+tuple_of_known s p (t ∷ ts) = clean_if (fits_limits (ty.Tuple (types_in (t ∷ ts)))) _ _ (Known s) (λ e c. tt) (λ e. breaks_known s rule.P13 p)
 
 tuple_when_known : (s : Scope) (p : Place) (ts : Option (List Typed)) → Whole ts → Known s (tuple_when p ts)
 tuple_when_known s p None g = absurd g
