@@ -4,4 +4,3 @@ pub mod Targets
 pub mod Statements
 pub mod Functions
 pub mod Whole
-pub mod Laws
