@@ -39,7 +39,9 @@ use Rattle.meaning_rules.specs.declared.meaning.Range.{Range}
 use Rattle.meaning_rules.specs.declared.meaning.Meaning.{Meaning}
 use Rattle.meaning_rules.specs.declared.meaning.Meaning.TheVariants as meaning
 use Rattle.meaning_rules.specs.declared.scope.Scope.{Scope}
-use Rattle.meaning_rules.specs.Meanings.{Judged, Valued, Operand, a_value, a_literal, missing, Operated, broken, unknown, breaks, says, after, a_node, node, no_value, value_breaks, a_typed, literal, lit_node, operand_of, settled, fits_type, hoped, context, truth_of}
+use Rattle.meaning_rules.specs.declared.operand.Operand.{Operand}
+use Rattle.meaning_rules.specs.declared.operand.Operand.TheVariants.{Value as a_value, Literal as a_literal, Missing as missing}
+use Rattle.meaning_rules.specs.Meanings.{Judged, Valued, Operated, broken, unknown, breaks, says, after, a_node, node, no_value, value_breaks, a_typed, literal, lit_node, operand_of, settled, fits_type, hoped, context, truth_of}
 
 -- ---- what is called
 

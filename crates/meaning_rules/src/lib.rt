@@ -1,8 +1,21 @@
 //! What an expression means, from the meanings of its parts.
 #![tactic(auto)]
 
+mod choosing;
 mod meaning;
+mod operand;
+mod operators;
 mod scope;
+mod subscripts;
+mod telling;
+mod types;
+mod values;
 
+pub use choosing::{choose_values, chosen};
 pub use meaning::{Context, Expect, Hope, Lit, Meaning, Range, Typed};
+pub use operand::{End, Operand};
+pub use operators::{BinaryOperator, between_operands, has_between, two_values, unary_operand};
 pub use scope::{Local, Method, Scope, Status};
+pub use subscripts::{a_number, end_of_bytes, index_hope, index_when, is_bytes, other_end, slice_when};
+pub use types::copied;
+pub use values::{as_operand, condition, fits_type, fits_when, hoped, literal, settled, value};
