@@ -3,3 +3,5 @@ pub mod Calls
 pub mod Operations
 pub mod Betweens
 pub mod Indexes
+pub mod Reads
+pub mod Callees
