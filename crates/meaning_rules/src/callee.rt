@@ -78,7 +78,7 @@ fn thing_callee(thing: Thing) -> Callee
 }
 
 /// What is called where an expression with this meaning is.
-pub fn callee(meaning: &Meaning) -> Callee
+pub fn called(meaning: &Meaning) -> Callee
     ensures { (fs : List Signature) → callees.meant fs result ≡ spec.callee fs meaning.now }
 {
     match meaning {
