@@ -7,8 +7,8 @@ use Rattle.avm_ops.specs.declared.instr.Instr.{Instr}
 use Rattle.avm_ops.specs.declared.instr.Imm.TheVariants as imm
 use Rattle.avm_ops.specs.Rows.{value_row}
 use Rattle.avm_state.specs.declared.call.Call.{Call}
-use Rattle.awst.specs.declared.prim.Prim.{Prim}
-use Rattle.awst.specs.declared.prim.Prim.TheVariants as prim
+use Rattle.awst.specs.declared.primitive.Primitive.{Primitive}
+use Rattle.awst.specs.declared.primitive.Primitive.TheVariants as prim
 use Rattle.awst.specs.Values.{Val, number, flag, string, nothing, tuple, vals_of, listed, all_scalars, of_results, holds, truth_of, parts_of}
 
 -- the members of Txn and Global
@@ -51,7 +51,7 @@ pub data Action : Type 0 where
   logs_parts : Action
 
 -- the table of forms; opcodes are those of the AVM specification
-abbrev pub action_of : Prim → Action
+abbrev pub action_of : Primitive → Action
 action_of prim.Add = computes (instruction 0x08)
 action_of prim.Sub = computes (instruction 0x09)
 action_of prim.Mul = computes (instruction 0x0b)

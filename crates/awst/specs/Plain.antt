@@ -2,7 +2,7 @@
 use Rattle.std.specs.Prelude.{ℕ, ◌+◌, ◌==◌, ◌||◌, Bool, true, false, if◌then◌else◌, map, List, [], ◌∷◌, ◌++◌, length, Option, Some, None}
 use Rattle.puya_base.specs.declared.source.Place.{Place}
 use Rattle.awst.specs.declared.ty.Ty.{Ty}
-use Rattle.awst.specs.declared.prim.Prim.{Prim}
+use Rattle.awst.specs.declared.primitive.Primitive.{Primitive}
 use Rattle.awst.specs.declared.expression.Expr.{Expr}
 use Rattle.awst.specs.declared.expression.ExprKind.{ExprKind}
 use Rattle.awst.specs.declared.expression.ExprKind.TheOpen.{ExprKind-F, Index-F, Expr-F}
@@ -149,16 +149,16 @@ is_among (d ∷ ds) x = is_destination d x || is_among ds x
 abbrev pub read_of : Place → ValueType → Destination → Ex
 read_of place ty (to_variable x) = made place ty (own_local (scalar_count ty)) (variable x)
 
-abbrev pub updated : Place → Prim → Destination → Ex → Ex
+abbrev pub updated : Place → Primitive → Destination → Ex → Ex
 updated place prim d e =
     let ty = (node_of e).ty in
     made place ty (own_prim prim (scalar_count ty) 2) (strict (by prim) (an_expr (read_of place ty d) (an_expr e no_exprs)))
 
-abbrev pub assigned_value : Place → Option Prim → List Destination → Ex → Ex
+abbrev pub assigned_value : Place → Option Primitive → List Destination → Ex → Ex
 assigned_value place (Some prim) (d ∷ []) e = updated place prim d e
 assigned_value place _ ds e = e
 
-abbrev pub assign_plain : Place → List Destination → Option Prim → Ex → St
+abbrev pub assign_plain : Place → List Destination → Option Primitive → Ex → St
 assign_plain place ds prim e = headed place (own_assign (scalars_of e)) (assign ds (assigned_value place prim ds e))
 
 abbrev pub optional_scalars : Option Ex → ℕ

@@ -1,8 +1,8 @@
 -- Which types an operator or a form of the library takes, and which type it gives.
 use Rattle.std.specs.Prelude.{ℕ, ◌≡◌, Bool, true, false, IsTrue, List, [], ◌∷◌}
 use Rattle.std.specs.List.{All}
-use Rattle.awst.specs.declared.prim.Prim.{Prim}
-use Rattle.awst.specs.declared.prim.Prim.TheVariants as prim
+use Rattle.awst.specs.declared.primitive.Primitive.{Primitive}
+use Rattle.awst.specs.declared.primitive.Primitive.TheVariants as prim
 use Rattle.awst.specs.Types.{ValueType, uint64, bool, bytes, text, account, nothing, tuple, types_of}
 
 pub data Shape : Type 0 where
@@ -47,7 +47,7 @@ two_words = tuple (types_of (uint64 ∷ uint64 ∷ []))
 abbrev pub four_words : ValueType
 four_words = tuple (types_of (uint64 ∷ uint64 ∷ uint64 ∷ uint64 ∷ []))
 
-abbrev pub shape_of : Prim → Shape
+abbrev pub shape_of : Primitive → Shape
 shape_of prim.Add = from_numbers uint64
 shape_of prim.Sub = from_numbers uint64
 shape_of prim.Mul = from_numbers uint64

@@ -1,8 +1,8 @@
 -- The table of weights, prices and places: what the code of each node may weigh in bytes, what a run pays for it in units of the budget,
 -- and how many places of its own its code may hold besides the values of its parts.
 use Rattle.std.specs.Prelude.{ℕ, zero, suc, ◌+◌, ◌*◌, ◌/◌, ◌^◌, nat_lt, Bool, true, false, if◌then◌else◌, List, [], ◌∷◌, length}
-use Rattle.awst.specs.declared.prim.Prim.{Prim}
-use Rattle.awst.specs.declared.prim.Prim.TheVariants as prim
+use Rattle.awst.specs.declared.primitive.Primitive.{Primitive}
+use Rattle.awst.specs.declared.primitive.Primitive.TheVariants as prim
 
 -- the amounts of one node
 pub record Own : Type 0 where
@@ -72,7 +72,7 @@ abbrev pub own_call : ℕ → Own
 own_call s = amounts (12 + 6 * s) 0
 
 -- which form has which amounts
-abbrev pub own_prim : Prim → ℕ → ℕ → Own
+abbrev pub own_prim : Primitive → ℕ → ℕ → Own
 own_prim prim.SliceAll s parts = own_slice
 own_prim prim.SliceFrom s parts = own_slice
 own_prim prim.SliceTo s parts = own_slice

@@ -1,7 +1,7 @@
 -- Typed trees as plain data, with few forms: each node has its place, its type and its amounts.
 use Rattle.std.specs.Prelude.{ℕ, List, [], ◌∷◌, Option}
 use Rattle.puya_base.specs.declared.source.Place.{Place}
-use Rattle.awst.specs.declared.prim.Prim.{Prim}
+use Rattle.awst.specs.declared.primitive.Primitive.{Primitive}
 use Rattle.awst.specs.Types.{ValueType}
 use Rattle.awst.specs.Values.{Val}
 use Rattle.awst.specs.Table.{Own}
@@ -9,7 +9,7 @@ use Rattle.awst.specs.Table.{Own}
 -- what is done with the values of the parts
 pub data Operation : Type 0 where
   -- an operator or a form of the library
-  by : Prim → Operation
+  by : Primitive → Operation
   -- a tuple of the parts
   pack : Operation
   -- a part of a tuple, from 0

@@ -1,6 +1,6 @@
 //! Typed expressions.
 
-use crate::prim::Prim;
+use crate::primitive::Primitive;
 use crate::ty::Ty;
 use puya_base::{Blob, Boxed, List, Place};
 
@@ -31,7 +31,7 @@ pub enum ExprKind {
     /// A parameter or a local variable, by its number: the parameters come first.
     Local(u32),
     /// An operator or a form of the library, and its parts.
-    Prim(Prim, Exprs),
+    Prim(Primitive, Exprs),
     /// `and`: the right part is evaluated only where the left is `True`.
     And(Boxed<Expr>, Boxed<Expr>),
     /// `or`: the right part is evaluated only where the left is `False`.

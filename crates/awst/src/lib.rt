@@ -4,13 +4,13 @@
 mod contract;
 mod expression;
 mod laws;
-mod prim;
+mod primitive;
 mod statement;
 mod ty;
 
 pub use contract::{Contract, Func, Funcs};
 pub use expression::{Expr, ExprKind, Exprs, Index, Order};
 pub use laws::what_is_prescribed_lasts;
-pub use prim::Prim;
+pub use primitive::Primitive;
 pub use statement::{Arm, Arms, MatchArm, MatchArms, Stmt, StmtKind, Stmts, Target, Targets};
 pub use ty::{Ty, Tys};

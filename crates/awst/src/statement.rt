@@ -1,7 +1,7 @@
 //! Typed statements.
 
 use crate::expression::Expr;
-use crate::prim::Prim;
+use crate::primitive::Primitive;
 use puya_base::{Blob, List, Place};
 
 pub type Stmts = List<Stmt>;
@@ -32,7 +32,7 @@ pub struct Stmt {
 #[derive(Drop)]
 pub enum StmtKind {
     /// An assignment to one target, or of a tuple's parts to several; the operator of an augmented one.
-    Assign(Targets, Option<Prim>, Expr),
+    Assign(Targets, Option<Primitive>, Expr),
     /// An expression whose value is not used.
     Drop(Expr),
     /// `assert`.

@@ -4,7 +4,7 @@
 ///
 /// `i`, `j`, `n` are UInt64; `b`, `c` are Bytes. A form that fails on some values says where.
 #[derive(Clone, Copy, Debug, PartialEq, Eq)]
-pub enum Prim {
+pub enum Primitive {
     /// `i + j`; fails from 2^64 on.
     Add,
     /// `i - j`; fails below 0.
