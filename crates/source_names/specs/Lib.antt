@@ -7,4 +7,5 @@ pub mod Annotations
 pub mod Headers
 pub mod Modules
 pub mod Classes
+pub mod Lookups
 pub mod Equations

@@ -1,0 +1,16 @@
+-- Looking names up: the first line that has a name counts.
+use Rattle.std.specs.Prelude.{◌≡◌, ℕ, Bool, if◌then◌else◌, List, [], ◌∷◌, ◌++◌, bytes_eq, Option, Some, None}
+use Rattle.std.specs.HashMap.{HashMap, get_by_text}
+use Rattle.std.specs.String.{String}
+use Rattle.source_names.specs.Headers.{is_seen}
+
+abbrev pub first_of : {A : Type 0} → Option A → Option A → Option A
+first_of None o = o
+first_of (Some x) o = Some x
+
+abbrev pub value_at : {A : Type 0} → List ℕ → A → List ℕ → Option A
+value_at name x n = if bytes_eq name n then Some x else None
+
+-- names seen once this one is
+abbrev pub with_name : List (List ℕ) → List ℕ → List (List ℕ)
+with_name seen n = if is_seen n seen then seen else seen ++ n ∷ []
