@@ -18,8 +18,9 @@ pub same_both_ways : (a b : List ℕ) → bytes_eq a b ≡ bytes_eq b a
 same_both_ways a b = same_by a b (bytes_eq a b) (bytes_eq b a) refl refl
 
 module _ {K X : Type 0} (f : K → List ℕ) (k : K) (x : X) (n : List ℕ) where
-  at_end : lookup (λ q. bytes_eq n (f q)) ((k, x) ∷ []) ≡ value_at (f k) x n
-  at_end = rw (same_both_ways n (f k)) refl
+  at_end : (v : Bool) → bytes_eq (f k) n ≡ v → lookup (λ q. bytes_eq n (f q)) ((k, x) ∷ []) ≡ value_at (f k) x n
+  at_end true t = rw (same_both_ways n (f k), t) refl
+  at_end false t = rw (same_both_ways n (f k), t) refl
 
   step : (e : K × X) (es : List (K × X)) (mine other : Bool) → bytes_eq (f k) (f e.0) ≡ mine → bytes_eq n (f e.0) ≡ other
       → cond mine (Some e.1) (lookup (λ q. bytes_eq (f k) (f q)) es) ≡ None
@@ -34,7 +35,7 @@ module _ {K X : Type 0} (f : K → List ℕ) (k : K) (x : X) (n : List ℕ) wher
   -- a name that is new to the map is found in it from now on, and every other as before
   pub lookup-insert : (es : List (K × X)) → lookup (λ q. bytes_eq (f k) (f q)) es ≡ None
       → lookup (λ q. bytes_eq n (f q)) (insert_entry (λ a b. bytes_eq (f a) (f b)) es k x) ≡ first_of (lookup (λ q. bytes_eq n (f q)) es) (value_at (f k) x n)
-  lookup-insert [] none = at_end
+  lookup-insert [] none = at_end (bytes_eq (f k) n) refl
   lookup-insert (e ∷ es) none =
       step e es (bytes_eq (f k) (f e.0)) (bytes_eq n (f e.0)) refl refl none (lookup-insert es)
 
@@ -54,11 +55,13 @@ kept_by g name n x false t h = rw t (sym (first_none (g n)))
 pub kept : {A : Type 0} (g : List ℕ → Option A) (name n : List ℕ) (x : A) → is_some (g name) ≡ true → g n ≡ first_of (g n) (value_at name x n)
 kept g name n x h = kept_by g name n x (bytes_eq name n) refl h
 
+one_more : (x : Entry) (es : List Entry) (e : Entry) (n : List ℕ) (v : Bool) → bytes_eq x.name n ≡ v
+    → entry_named (es ++ e ∷ []) n ≡ first_of (entry_named es n) (value_at e.name e.thing n)
+    → entry_named ((x ∷ es) ++ e ∷ []) n ≡ first_of (entry_named (x ∷ es) n) (value_at e.name e.thing n)
+one_more x es e n true t rest = rw t refl
+one_more x es e n false t rest = rw t rest
+
 -- the lines of one more
 pub entry_named-append : (es : List Entry) (e : Entry) (n : List ℕ) → entry_named (es ++ e ∷ []) n ≡ first_of (entry_named es n) (value_at e.name e.thing n)
 entry_named-append [] e n = refl
-entry_named-append (x ∷ es) e n = by (bytes_eq x.name n) refl
-  where
-    by : (v : Bool) → bytes_eq x.name n ≡ v → entry_named ((x ∷ es) ++ e ∷ []) n ≡ first_of (entry_named (x ∷ es) n) (value_at e.name e.thing n)
-    by true t = rw t refl
-    by false t = rw t (entry_named-append es e n)
+entry_named-append (x ∷ es) e n = one_more x es e n (bytes_eq x.name n) refl (entry_named-append es e n)

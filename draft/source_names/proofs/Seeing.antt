@@ -13,14 +13,15 @@ use Rattle.source_names.specs.Lookups.{with_name, again}
 use Rattle.source_names.proofs.Finding.{same_both_ways}
 
 module _ {X : Type 0} (f : X → List ℕ) (name : List ℕ) where
+  seen_more : (x : X) (xs : List X) (v : Bool) → bytes_eq name (f x) ≡ v → list_any (λ k. bytes_eq name (f k)) xs ≡ is_seen name (map f xs)
+      → list_any (λ k. bytes_eq name (f k)) (x ∷ xs) ≡ is_seen name (map f (x ∷ xs))
+  seen_more x xs true t rest = rw (same_both_ways (f x) name, t) refl
+  seen_more x xs false t rest = rw (same_both_ways (f x) name, t) rest
+
   -- a set's names are looked through
   pub is_seen-map : (ks : List X) → list_any (λ k. bytes_eq name (f k)) ks ≡ is_seen name (map f ks)
   is_seen-map [] = refl
-  is_seen-map (x ∷ xs) = by (bytes_eq name (f x)) refl
-    where
-      by : (v : Bool) → bytes_eq name (f x) ≡ v → list_any (λ k. bytes_eq name (f k)) (x ∷ xs) ≡ is_seen name (map f (x ∷ xs))
-      by true t = rw (same_both_ways (f x) name, t) refl
-      by false t = rw (same_both_ways (f x) name, t) (is_seen-map xs)
+  is_seen-map (x ∷ xs) = seen_more x xs (bytes_eq name (f x)) refl (is_seen-map xs)
 
   inserted_by : (ks : List X) (k : X) (after : List X) (v : Bool) → f k ≡ name → is_seen name (map f ks) ≡ v
       → after ≡ (if list_any (λ x. bytes_eq (f k) (f x)) ks then ks else ks ++ k ∷ []) → map f after ≡ with_name (map f ks) name
@@ -38,15 +39,17 @@ pub seen_variable : (vs : List (List ℕ)) (n : List ℕ) → names_variable vs 
 seen_variable [] n = refl
 seen_variable (v ∷ vs) n = ap (λ r. if bytes_eq v n then true else r) (seen_variable vs n)
 
+seen_last : (s : List ℕ) (seen : List (List ℕ)) (m n : List ℕ) (v w : Bool) → bytes_eq s n ≡ v → bytes_eq m n ≡ w
+    → is_seen n (seen ++ m ∷ []) ≡ (if bytes_eq m n then true else is_seen n seen)
+    → is_seen n ((s ∷ seen) ++ m ∷ []) ≡ (if bytes_eq m n then true else is_seen n (s ∷ seen))
+seen_last s seen m n true true t u rest = rw (t, u) refl
+seen_last s seen m n true false t u rest = rw (t, u) refl
+seen_last s seen m n false true t u rest = rw t rest
+seen_last s seen m n false false t u rest = rw t rest
+
 is_seen-append : (seen : List (List ℕ)) (m n : List ℕ) → is_seen n (seen ++ m ∷ []) ≡ (if bytes_eq m n then true else is_seen n seen)
 is_seen-append [] m n = refl
-is_seen-append (s ∷ seen) m n = by (bytes_eq s n) (bytes_eq m n) refl refl
-  where
-    by : (v w : Bool) → bytes_eq s n ≡ v → bytes_eq m n ≡ w → is_seen n ((s ∷ seen) ++ m ∷ []) ≡ (if bytes_eq m n then true else is_seen n (s ∷ seen))
-    by true true t u = rw (t, u) refl
-    by true false t u = rw (t, u) refl
-    by false true t u = rw (t, u) (is_seen-append seen m n ∙ rw u refl)
-    by false false t u = rw (t, u) (is_seen-append seen m n ∙ rw u refl)
+is_seen-append (s ∷ seen) m n = seen_last s seen m n (bytes_eq s n) (bytes_eq m n) refl refl (is_seen-append seen m n)
 
 old_name : (seen : List (List ℕ)) (m n : List ℕ) (v : Bool) → bytes_eq m n ≡ v → is_seen m seen ≡ true → is_seen n seen ≡ (if bytes_eq m n then true else is_seen n seen)
 old_name seen m n true t h = rw t (ap (λ z. is_seen z seen) (sym ((bytes_eq-Decides m n).0 t)) ∙ h)
