@@ -7,7 +7,7 @@ use Rattle.path_rules.specs.declared.summary.Summary.{Summary}
 use Rattle.path_rules.specs.Steps.{Steps, no_steps, before}
 use Rattle.path_rules.specs.Walks.{Exit, goes, leaves, breaks, continues, Way, out, returns, at, Walks}
 use Rattle.path_rules.specs.Rules.{IsNotAfter, IsLeast}
-use Rattle.path_rules.specs.Summaries.{Rises, effect_of, endings_from}
+use Rattle.path_rules.specs.Summaries.{Rises, effect_of, endings_from, untouched}
 
 abbrev pub has : Exits → Exit → Bool
 has e goes = e.goes
@@ -25,10 +25,18 @@ pub record AreEndings (P : Way → Type 0) (a : Endings) : Type 0 where
 abbrev pub Ends : ℕ → Steps → Bool → Way → Type 0
 Ends x fs s w = Walks x fs s w false
 
+abbrev pub IsOut : Way → Type 0
+IsOut (out e) = Unit {0}
+IsOut returns = ⊥
+IsOut (at p) = ⊥
+
+-- the exits that walks have at all
+abbrev pub GetsOut : ℕ → Steps → Bool → Way → Type 0
+GetsOut x fs s w = IsOut w × ((t : Bool) × Walks x fs s w t)
+
 pub record Describes (m : Summary) (fs : Steps) : Type 0 where
   pub rises : Rises 0 m.touched
-  pub each : (x : ℕ) (s : Bool) (e : Exit) → has m.others e ≡ true → (t : Bool) × Walks x fs s (out e) t
-  pub all : (x : ℕ) (s : Bool) (e : Exit) (t : Bool) → Walks x fs s (out e) t → has m.others e ≡ true
+  pub others : (x : ℕ) (s : Bool) → AreEndings (GetsOut x fs s) (untouched m.others).unassigned
   pub effects : (x : ℕ) (s : Bool) → AreEndings (Ends x fs s) (endings_from s (effect_of m x))
 
 -- summaries are those of pieces, one by one

@@ -1,0 +1,4 @@
+pub mod Firsts
+pub mod WalkLaws
+pub mod EndingLaws
+pub mod Merging
