@@ -104,7 +104,7 @@ endings_behind_are P Q R C a on e to from h k m =
 
 -- ---- in a frame
 
-same_exit : (a : Exits) (d e : Exit) → out d ≡ out e → has a d ≡ true → has a e ≡ true
+pub same_exit : (a : Exits) (d e : Exit) → out d ≡ out e → has a d ≡ true → has a e ≡ true
 same_exit a d e q h = let f : d ≡ e = cc in subst (λ z. has a z ≡ true) f h
 
 arm_each : (P : Way → Type 0) (passes : Bool) (a : Endings) → AreEndings P a → (e : Exit) → has (arm_endings passes a).exits e ≡ true → ((passes ≡ true) × (out e ≡ out goes)) ⊎ ((w : Way) × P w × (behind_arm w ≡ out e))

@@ -137,7 +137,7 @@ unassigned_once : (x : ℕ) (fs : Steps) (v : Way) → TurnsOnce x fs true v →
 unassigned_once x fs v (inl l) = (l.0, more x fs l.0 l.1, l.2)
 unassigned_once x fs v (inr p) = p.1
 
-into_last : (x : ℕ) (fs : Steps) (t : Bool) (v : Way) → TurnsOnce x fs t v → LastTurn x fs false v
+pub into_last : (x : ℕ) (fs : Steps) (t : Bool) (v : Way) → TurnsOnce x fs t v → LastTurn x fs false v
 into_last x fs true v h = unassigned_once x fs v h
 into_last x fs false v (inl l) = l
 into_last x fs false v (inr p) = p.1

@@ -4,7 +4,9 @@ use Rattle.puya_base.specs.declared.source.Place.{Place}
 use Rattle.path_rules.specs.declared.summary.Exits.{Exits}
 use Rattle.path_rules.specs.declared.summary.Endings.{Endings}
 use Rattle.path_rules.specs.declared.summary.Summary.{Summary}
-use Rattle.path_rules.specs.Steps.{Steps, no_steps, before}
+use Rattle.path_rules.specs.declared.summary.Frame.{Frame}
+use Rattle.path_rules.specs.declared.summary.Frame.TheVariants.{Arm, If, Loop}
+use Rattle.path_rules.specs.Steps.{Step, arm, choice, loop, Steps, no_steps, before}
 use Rattle.path_rules.specs.Walks.{Exit, goes, leaves, breaks, continues, Way, out, returns, at, Walks}
 use Rattle.path_rules.specs.Rules.{IsNotAfter, IsLeast}
 use Rattle.path_rules.specs.Summaries.{Rises, effect_of, endings_from, untouched}
@@ -39,9 +41,18 @@ pub record Describes (m : Summary) (fs : Steps) : Type 0 where
   pub others : (x : ℕ) (s : Bool) → AreEndings (GetsOut x fs s) (untouched m.others).unassigned
   pub effects : (x : ℕ) (s : Bool) → AreEndings (Ends x fs s) (endings_from s (effect_of m x))
 
--- summaries are those of pieces, one by one
-abbrev pub DescribeEach : List Summary → List Steps → Type 0
-DescribeEach [] [] = Unit {0}
-DescribeEach [] (fs ∷ rest) = ⊥
-DescribeEach (m ∷ ms) [] = ⊥
-DescribeEach (m ∷ ms) (fs ∷ rest) = Describes m fs × DescribeEach ms rest
+-- the summaries are those of pieces that make up the steps
+abbrev pub Together : List Summary → Steps → Type 0
+Together [] fs = no_steps ≡ fs
+Together (m ∷ ms) fs = (g : Steps) × ((h : Steps) × (Describes m g × (Together ms h × (before g h ≡ fs))))
+
+-- the same with steps that are still to come
+pub record TogetherWith (ms : List Summary) (rest whole : Steps) : Type 0 where
+  pub so_far : Steps
+  pub together : Together ms so_far
+  pub all_of : before so_far rest ≡ whole
+
+abbrev pub step_in : Frame → Steps → Step
+step_in (Arm always) fs = arm always fs
+step_in If fs = choice fs
+step_in Loop fs = loop fs

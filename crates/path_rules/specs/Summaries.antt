@@ -7,6 +7,7 @@ use Rattle.path_rules.specs.declared.summary.Touched.{Touched}
 use Rattle.path_rules.specs.declared.summary.Summary.{Summary}
 use Rattle.path_rules.specs.declared.summary.Frame.{Frame}
 use Rattle.path_rules.specs.declared.summary.Frame.TheVariants.{Arm, If, Loop}
+use Rattle.puya_base.specs.declared.source.Place.{Place}
 use Rattle.path_rules.specs.Order.{earlier_place}
 
 abbrev pub no_exits : Exits
@@ -113,3 +114,31 @@ effect_of m x = effect_in m.others x m.touched
 abbrev pub endings_from : Bool → Effect → Endings
 endings_from true e = e.assigned
 endings_from false e = e.unassigned
+
+-- ---- summaries
+
+abbrev pub only_goes : Exits
+only_goes = record { goes = true; leaves = false; breaks = false; continues = false }
+
+abbrev pub summary_behind : Summary → Summary → Summary
+summary_behind m n = record { others = others_behind m.others n.others; touched = merged m.others n.others m.touched n.touched }
+
+abbrev pub summary_in_frame : Frame → Summary → Summary
+summary_in_frame f m = record { others = others_in_frame f m.others; touched = map (touched_in_frame f) m.touched }
+
+-- of what names no variable
+abbrev pub plain : Exits → Summary
+plain e = record { others = e; touched = [] }
+
+-- of what names one variable and goes on
+abbrev pub naming : ℕ → Effect → Summary
+naming x effect = record { others = only_goes; touched = record { variable = x; effect = effect } ∷ [] }
+
+abbrev pub read_effect : Place → Effect
+read_effect p = record { unassigned = record { exits = only_goes; read = Some p }; assigned = no_endings }
+
+abbrev pub assign_effect : Effect
+assign_effect = record { unassigned = no_endings; assigned = no_endings }
+
+abbrev pub forget_effect : Effect
+forget_effect = record { unassigned = record { exits = only_goes; read = None }; assigned = record { exits = only_goes; read = None } }
