@@ -17,7 +17,7 @@ use Rattle.path_rules.specs.Summaries.{no_exits, no_endings, untouched, either, 
 use Rattle.path_rules.specs.Describes.{has, AreEndings, Ends, IsOut, GetsOut, Describes, Together, TogetherWith, step_in}
 use Rattle.path_rules.proofs.WalkLaws.{stop_before, on_before, Split, split, one_to, one_from, more, from_any, LastTurn, ComesBack, TurnsOnce, into_last, loop_from, loop_to, loop_ends, arm_cases, if_cases}
 use Rattle.path_rules.proofs.EndingLaws.{endings_iff, endings_either, endings_none, endings_given, endings_behind_are, same_exit, arm_are, if_are, loop_are, back_to, back_from}
-use Rattle.path_rules.proofs.Merging.{merged_rises, merged_at, untouched_behind, frame_rises, frame_at}
+use Rattle.path_rules.proofs.MergeLaws.{merged_rises, merged_at, untouched_behind, frame_rises, frame_at}
 
 -- ---- one piece behind another
 

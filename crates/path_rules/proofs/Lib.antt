@@ -1,5 +1,9 @@
 pub mod Firsts
 pub mod WalkLaws
 pub mod EndingLaws
-pub mod Merging
+pub mod MergeLaws
 pub mod Describing
+pub mod TogetherLaws
+pub mod Leaves
+pub mod Equations
+pub mod Compounds

@@ -4,3 +4,4 @@ pub mod Rules
 pub mod Order
 pub mod Summaries
 pub mod Describes
+pub mod NextOf

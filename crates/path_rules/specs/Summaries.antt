@@ -123,6 +123,11 @@ only_goes = record { goes = true; leaves = false; breaks = false; continues = fa
 abbrev pub summary_behind : Summary → Summary → Summary
 summary_behind m n = record { others = others_behind m.others n.others; touched = merged m.others n.others m.touched n.touched }
 
+-- the second alone where there is no first
+abbrev pub both_or_one : Option Summary → Summary → Summary
+both_or_one None n = n
+both_or_one (Some m) n = summary_behind m n
+
 abbrev pub summary_in_frame : Frame → Summary → Summary
 summary_in_frame f m = record { others = others_in_frame f m.others; touched = map (touched_in_frame f) m.touched }
 
@@ -142,3 +147,12 @@ assign_effect = record { unassigned = no_endings; assigned = no_endings }
 
 abbrev pub forget_effect : Effect
 forget_effect = record { unassigned = record { exits = only_goes; read = None }; assigned = record { exits = only_goes; read = None } }
+
+abbrev pub exits_at_end : Exits
+exits_at_end = record { goes = true; leaves = true; breaks = false; continues = false }
+
+abbrev pub only_breaks : Exits
+only_breaks = record { goes = false; leaves = false; breaks = true; continues = false }
+
+abbrev pub only_continues : Exits
+only_continues = record { goes = false; leaves = false; breaks = false; continues = true }

@@ -1,7 +1,11 @@
 //! What the body of a function does as far as paths go, and the first rule on paths that it breaks.
 #![tactic(auto)]
 
+mod endings;
+mod joining;
+mod merging;
 mod note;
+mod order;
 mod summary;
 
 pub use note::{Note, NoteArm, Notes};

@@ -1,5 +1,6 @@
 -- What a merge of two lists of variables says of each variable.
-use Rattle.std.proofs.Common.{◌≡◌, ℕ, suc, ◌<◌, ◌≤◌, Bool, true, false, List, [], ◌∷◌, map, refl, sym, ◌∙◌, ap, subst, arith}
+use Rattle.std.proofs.lemmas.List.{take_all}
+use Rattle.std.proofs.Common.{◌≡◌, ℕ, suc, ◌-◌, ◌<◌, ◌≤◌, ◌⊎◌, inl, inr, ◌++◌, length, take, append_assoc, length-drop, Bool, true, false, List, [], ◌∷◌, map, drop, refl, sym, ◌∙◌, ap, subst, arith}
 use Rattle.std.specs.Prelude.{if◌then◌else◌, ◌==◌, nat_lt}
 use Rattle.std.proofs.lemmas.Bool.{ltb-true, ltb-false, eqb-true, eqb-false, eq-eqb, ne_eqb, cond-true, cond-false, cond_both}
 use Rattle.path_rules.specs.declared.summary.Exits.{Exits}
@@ -7,6 +8,8 @@ use Rattle.path_rules.specs.declared.summary.Effect.{Effect}
 use Rattle.path_rules.specs.declared.summary.Touched.{Touched}
 use Rattle.path_rules.specs.declared.summary.Frame.{Frame}
 use Rattle.path_rules.specs.declared.summary.Frame.TheVariants.{Arm, If, Loop}
+use Rattle.path_rules.specs.declared.merging.Next.{Next}
+use Rattle.path_rules.specs.NextOf.{next_of}
 use Rattle.path_rules.specs.Summaries.{untouched, behind, others_behind, left_alone, right_alone, both_named, merged_with, merged, in_frame, others_in_frame, touched_in_frame, Rises, effect_in}
 
 -- ---- rising lists
@@ -126,3 +129,38 @@ frame_at f o x (t ∷ ts) =
     if_is (x == t.variable) (in_frame f t.effect) (effect_in (others_in_frame f o) x (map (touched_in_frame f) ts)) (in_frame f (effect_in o x (t ∷ ts)))
     (λ e. ap (in_frame f) (sym (cond-true (x == t.variable) t.effect (effect_in o x ts) e)))
     (λ e. frame_at f o x ts ∙ ap (in_frame f) (sym (cond-false (x == t.variable) t.effect (effect_in o x ts) e)))
+
+-- ---- one step of a merge
+
+pub merged-none : (a b : Exits) (ts : List Touched) → merged a b ts [] ≡ map (left_alone a b) ts
+merged-none a b [] = refl
+merged-none a b (t ∷ ts) = ap (λ l. left_alone a b t ∷ l) (merged-none a b ts)
+
+by_tests : (a b : Exits) (t : Touched) (ts : List Touched) (u : Touched) (us : List Touched) (c d : Bool)
+    → let n : Next = if c then record { touched = left_alone a b t; first = 1; second = 0 } else (if d then record { touched = right_alone a b u; first = 0; second = 1 } else record { touched = both_named a t u; first = 1; second = 1 }) in
+    (if c then left_alone a b t ∷ merged a b ts (u ∷ us) else (if d then right_alone a b u ∷ merged_with a b t (merged a b ts) us else both_named a t u ∷ merged a b ts us))
+      ≡ n.touched ∷ merged a b (drop n.first (t ∷ ts)) (drop n.second (u ∷ us))
+by_tests a b t ts u us true d = refl
+by_tests a b t ts u us false true = refl
+by_tests a b t ts u us false false = refl
+
+pub merged-next : (a b : Exits) (t : Touched) (ts : List Touched) (u : Touched) (us : List Touched) → merged a b (t ∷ ts) (u ∷ us) ≡ (next_of a b t u).touched ∷ merged a b (drop (next_of a b t u).first (t ∷ ts)) (drop (next_of a b t u).second (u ∷ us))
+merged-next a b t ts u us = by_tests a b t ts u us (nat_lt t.variable u.variable) (nat_lt u.variable t.variable)
+
+none_behind : (ts : List Touched) → ts ++ [] ≡ ts
+none_behind [] = refl
+none_behind (t ∷ ts) = ap (λ l. t ∷ l) (none_behind ts)
+
+-- where one of the lists has come to its end
+pub merged-ends : (a b : Exits) (ts us : List Touched) → (ts ≡ []) ⊎ (us ≡ []) → merged a b ts us ≡ map (left_alone a b) ts ++ map (right_alone a b) us
+merged-ends a b [] us h = refl
+merged-ends a b (t ∷ ts) [] h = merged-none a b (t ∷ ts) ∙ sym (none_behind (map (left_alone a b) (t ∷ ts)))
+merged-ends a b (t ∷ ts) (u ∷ us) (inl e) = absurd (cc)
+merged-ends a b (t ∷ ts) (u ∷ us) (inr e) = absurd (cc)
+
+pub the_rest : (i : ℕ) (ts : List Touched) → take (length ts - i) (drop i ts) ≡ drop i ts
+the_rest i ts = take_all (length ts - i) (drop i ts) (omega (arith, length-drop i ts))
+
+pub finished : (a b : Exits) (into mid end whole ts us : List Touched) → (ts ≡ []) ⊎ (us ≡ []) → into ++ merged a b ts us ≡ whole → mid ≡ into ++ map (left_alone a b) ts → end ≡ mid ++ map (right_alone a b) us → end ≡ whole
+finished a b into mid end whole ts us h e f g =
+    g ∙ ap (λ z. z ++ map (right_alone a b) us) f ∙ append_assoc into (map (left_alone a b) ts) (map (right_alone a b) us) ∙ ap (λ z. into ++ z) (sym (merged-ends a b ts us h)) ∙ e
