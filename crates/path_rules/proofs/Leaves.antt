@@ -82,6 +82,17 @@ describes_continue p = plain_describes (continue p) only_continues (continue_onl
 return_cases : (x : ℕ) (s : Bool) (w : Way) (t : Bool) → Walk x return s w t → w ≡ returns
 return_cases x _ _ _ (returned s) = refl
 
+no_return : (x : ℕ) (s : Bool) → AreEndings (λ w. Walk x return s w false) no_endings
+no_return x s = record {
+  each = λ e h. absurd (none_has e h);
+  all = λ e h. let k = return_cases x s (out e) false h in absurd (cc);
+  first = λ p h. let k = return_cases x s (at p) false h in cc
+}
+
+return_effect : (x : ℕ) (s : Bool) → AreEndings (λ w. Walk x return s w false) (endings_from s (untouched no_exits))
+return_effect x true = no_return x true
+return_effect x false = no_return x false
+
 pub describes_return : Describes (plain no_exits) (one return)
 describes_return = record {
   rises = tt;
@@ -90,17 +101,8 @@ describes_return = record {
     all = λ e h. let k = return_cases x s (out e) h.1.0 (one_from x return s (out e) h.1.0 h.1.1) in absurd (cc);
     first = λ p h. h.0
   };
-  effects = λ x s. one_endings x return s (endings_from s (untouched no_exits)) (no_return x s)
-} where
-  no_ending : (x : ℕ) (s : Bool) → AreEndings (λ w. Walk x return s w false) no_endings
-  no_ending x s = record {
-    each = λ e h. absurd (none_has e h);
-    all = λ e h. let k = return_cases x s (out e) false h in absurd (cc);
-    first = λ p h. let k = return_cases x s (at p) false h in cc
-  }
-  no_return : (x : ℕ) (s : Bool) → AreEndings (λ w. Walk x return s w false) (endings_from s (untouched no_exits))
-  no_return x true = no_ending x true
-  no_return x false = no_ending x false
+  effects = λ x s. one_endings x return s (endings_from s (untouched no_exits)) (return_effect x s)
+}
 
 end_only : OnlyOut may_end exits_at_end
 end_only x _ _ _ (ends s) = (leaves, refl, refl, refl)

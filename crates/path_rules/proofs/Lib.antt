@@ -7,3 +7,6 @@ pub mod TogetherLaws
 pub mod Leaves
 pub mod Equations
 pub mod Compounds
+pub mod RefusalOrder
+pub mod ToldLaws
+pub mod FirstBroken

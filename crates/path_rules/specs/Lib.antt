@@ -5,3 +5,4 @@ pub mod Order
 pub mod Summaries
 pub mod Describes
 pub mod NextOf
+pub mod Told

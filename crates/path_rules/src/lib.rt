@@ -1,6 +1,7 @@
 //! What the body of a function does as far as paths go, and the first rule on paths that it breaks.
 #![tactic(auto)]
 
+mod broken;
 mod digest;
 mod endings;
 mod joining;
@@ -8,5 +9,7 @@ mod merging;
 mod note;
 mod order;
 mod summary;
+mod told;
 
+pub use broken::broken;
 pub use note::{Note, NoteArm, Notes};
