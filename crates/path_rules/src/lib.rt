@@ -9,6 +9,8 @@ mod merging;
 mod note;
 mod order;
 mod summary;
+#[cfg(test)]
+mod tests;
 mod told;
 
 pub use broken::broken;
