@@ -6,9 +6,10 @@ use Rattle.path_rules.specs.declared.summary.Summary.{Summary}
 use Rattle.path_rules.specs.declared.summary.Frame.TheVariants.{Arm, If, Loop}
 use Rattle.path_rules.specs.Steps.{Step, Steps, one, before, arm, choice, loop, an_end, an_arm, a_loop}
 use Rattle.path_rules.specs.Summaries.{plain, exits_at_end, only_goes, summary_behind, summary_in_frame}
-use Rattle.path_rules.specs.Describes.{Describes, Together}
+use Rattle.path_rules.specs.Describes.{Describes, Together, TogetherWith}
 use Rattle.path_rules.proofs.Describing.{describes_behind, describes_in_frame}
 use Rattle.path_rules.proofs.Leaves.{describes_end}
+use Rattle.path_rules.proofs.TogetherLaws.{with_last}
 
 abbrev pub arm_summary : Summary → Bool → Summary → Summary
 arm_summary test always body = summary_behind test (summary_in_frame (Arm always) body)
@@ -40,11 +41,11 @@ arm_gives r test done body always e h =
     ok_map (λ m. m ≡ summary_behind test done) (λ m. (t b : Steps) → Describes test t → Describes body b → Describes m (an_arm t always b))
     (λ m is t b j k. subst (λ z. Describes z (an_arm t always b)) (sym (is ∙ ap (λ d. summary_behind test d) e)) (describes_arm test always body t b j k)) r h
 
-pub if_gives : (r : Result Summary Memory) (parts : List Summary) (all : Summary) → ((fs : Steps) → Together parts fs → Describes all fs) → IfOk r (λ m. m ≡ summary_in_frame If all)
-    → IfOk r (λ m. (fs : Steps) → Together parts fs → Describes m (one (choice fs)))
-if_gives r parts all d h =
-    ok_map (λ m. m ≡ summary_in_frame If all) (λ m. (fs : Steps) → Together parts fs → Describes m (one (choice fs)))
-    (λ m is fs k. subst (λ z. Describes z (one (choice fs))) (sym is) (describes_in_frame If all fs (d fs k))) r h
+pub if_gives : (r : Result Summary Memory) (parts into : List Summary) (rest all : Summary) → into ≡ parts ++ rest ∷ [] → ((fs : Steps) → Together into fs → Describes all fs) → IfOk r (λ m. m ≡ summary_in_frame If all)
+    → IfOk r (λ m. (fs gs : Steps) → TogetherWith parts gs fs → Describes rest gs → Describes m (one (choice fs)))
+if_gives r parts into rest all e d h =
+    ok_map (λ m. m ≡ summary_in_frame If all) (λ m. (fs gs : Steps) → TogetherWith parts gs fs → Describes rest gs → Describes m (one (choice fs)))
+    (λ m is fs gs w k. subst (λ z. Describes z (one (choice fs))) (sym is) (describes_in_frame If all fs (d fs (subst (λ l. Together l fs) (sym e) (with_last parts rest gs fs w k))))) r h
 
 pub loop_gives : (r : Result Summary Memory) (test end rest turn body : Summary) (ends : Bool) → end ≡ plain (if ends then exits_at_end else only_goes) → rest ≡ summary_behind end body → turn ≡ summary_behind test rest → IfOk r (λ m. m ≡ summary_in_frame Loop turn)
     → IfOk r (λ m. (t b : Steps) → Describes test t → Describes body b → Describes m (one (a_loop t ends b)))
@@ -52,10 +53,3 @@ loop_gives r test end rest turn body ends e f g h =
     let turn_is : turn ≡ turn_summary test ends body = g ∙ ap (λ z. summary_behind test z) (f ∙ ap (λ z. summary_behind z body) e) in
     ok_map (λ m. m ≡ summary_in_frame Loop turn) (λ m. (t b : Steps) → Describes test t → Describes body b → Describes m (one (a_loop t ends b)))
     (λ m is t b j k. subst (λ z. Describes z (one (a_loop t ends b))) (sym (is ∙ ap (λ z. summary_in_frame Loop z) turn_is)) (describes_loop test ends body t b j k)) r h
-
-pub leaf_gives : (r : Result Summary Memory) (given wanted : Summary) (f g : Step) → given ≡ wanted → g ≡ f → Describes wanted (one f) → IfOk r (λ m. m ≡ given) → IfOk r (λ m. Describes m (one g))
-leaf_gives r given wanted f g e is d h =
-    ok_map (λ m. m ≡ given) (λ m. Describes m (one g)) (λ m k. subst (λ z. Describes m (one z)) (sym is) (subst (λ z. Describes z (one f)) (sym (k ∙ e)) d)) r h
-
-pub same_step : (r : Result Summary Memory) (f g : Step) → g ≡ f → IfOk r (λ m. Describes m (one f)) → IfOk r (λ m. Describes m (one g))
-same_step r f g e h = subst (λ z. IfOk r (λ m. Describes m (one z))) (sym e) h

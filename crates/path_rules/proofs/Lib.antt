@@ -10,3 +10,4 @@ pub mod Compounds
 pub mod RefusalOrder
 pub mod ToldLaws
 pub mod FirstBroken
+pub mod NoteSteps

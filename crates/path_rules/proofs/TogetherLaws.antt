@@ -95,6 +95,9 @@ one_more ms m gs rest whole h k = record {
 pub all_there : (ms : List Summary) (whole : Steps) → TogetherWith ms no_steps whole → Together ms whole
 all_there ms whole h = subst (λ f. Together ms f) (sym (before-none h.so_far) ∙ h.all_of) h.together
 
+pub with_last : (ms : List Summary) (m : Summary) (gs whole : Steps) → TogetherWith ms gs whole → Describes m gs → Together (ms ++ m ∷ []) whole
+with_last ms m gs whole h k = subst (λ f. Together (ms ++ m ∷ []) f) h.all_of (with_one_more ms m h.so_far gs h.together k)
+
 -- ---- what halving does
 
 halved_pair : (ps hs : List Summary) (m n : Summary) (fs : Steps) → Together (((ps ++ m ∷ []) ++ n ∷ []) ++ reverse hs) fs → Together (ps ++ reverse (hs ++ summary_behind m n ∷ [])) fs

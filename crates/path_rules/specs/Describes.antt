@@ -1,12 +1,13 @@
 -- A summary is that of steps.
 use Rattle.std.specs.Prelude.{ℕ, ◌≡◌, Bool, true, false, List, [], ◌∷◌}
 use Rattle.puya_base.specs.declared.source.Place.{Place}
+use Rattle.puya_base.specs.declared.source.Refusal.{Refusal}
 use Rattle.path_rules.specs.declared.summary.Exits.{Exits}
 use Rattle.path_rules.specs.declared.summary.Endings.{Endings}
 use Rattle.path_rules.specs.declared.summary.Summary.{Summary}
 use Rattle.path_rules.specs.declared.summary.Frame.{Frame}
 use Rattle.path_rules.specs.declared.summary.Frame.TheVariants.{Arm, If, Loop}
-use Rattle.path_rules.specs.Steps.{Step, arm, choice, loop, Steps, no_steps, before}
+use Rattle.path_rules.specs.Steps.{Step, broken, arm, choice, loop, break, continue, return, Steps, no_steps, one, before}
 use Rattle.path_rules.specs.Walks.{Exit, goes, leaves, breaks, continues, Way, out, returns, at, Walks}
 use Rattle.path_rules.specs.Rules.{IsNotAfter, IsLeast}
 use Rattle.path_rules.specs.Summaries.{Rises, effect_of, endings_from, untouched}
@@ -56,3 +57,15 @@ abbrev pub step_in : Frame → Steps → Step
 step_in (Arm always) fs = arm always fs
 step_in If fs = choice fs
 step_in Loop fs = loop fs
+
+abbrev pub DescribesFault : Summary → Type 0
+DescribesFault m = (r : Refusal) → Describes m (one (broken r))
+
+abbrev pub DescribesBreak : Summary → Type 0
+DescribesBreak m = (p : Place) → Describes m (one (break p))
+
+abbrev pub DescribesContinue : Summary → Type 0
+DescribesContinue m = (p : Place) → Describes m (one (continue p))
+
+abbrev pub DescribesReturn : Summary → Type 0
+DescribesReturn m = Describes m (one return)

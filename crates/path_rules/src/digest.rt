@@ -1,8 +1,8 @@
 //! The summary of notes. Each list of notes is looked at once.
 
-ghost use Rattle.std.specs.Prelude.{◌≡◌, IfOk, if◌then◌else◌};
-ghost use Rattle.path_rules.specs.Describes.{Describes, Together};
-ghost use Rattle.path_rules.specs.Steps.{Steps, one, an_arm, an_if, a_loop, choice, step_of, steps_of, arm_of, arms_of};
+ghost use Rattle.std.specs.Prelude.{◌≡◌, [], ◌∷◌, ◌++◌, IfOk, OnOk, if◌then◌else◌};
+ghost use Rattle.path_rules.specs.Describes.{Describes, TogetherWith, DescribesFault, DescribesBreak, DescribesContinue, DescribesReturn};
+ghost use Rattle.path_rules.specs.Steps.{Steps, read, assign, forget, one, an_arm, an_if, a_loop, choice, step_of, steps_of, arm_of, arms_of};
 ghost use Rattle.path_rules.specs.Summaries as spec;
 
 use crate::joining::{joined, only_goes, plain};
@@ -98,10 +98,46 @@ fn ending(alloc: Global, ends: bool) -> Summary
     plain(alloc, exits)
 }
 
-fn plain_note(alloc: Global, exits: Exits) -> Result<Summary, Memory>
-    ensures { IfOk result (λ m. m ≡ spec.plain exits) }
+fn passing_summary(alloc: Global) -> Result<Summary, Memory>
+    ensures { IfOk result (λ m. DescribesFault m) }
 {
-    Ok(plain(alloc, exits))
+    Ok(plain(alloc, only_goes()))
+}
+
+fn read_summary(alloc: Global, variable: u32, place: Place) -> Result<Summary, Memory>
+    ensures { IfOk result (λ m. Describes m (one (read variable place))) }
+{
+    naming(alloc, variable, read_effect(place))
+}
+
+fn assign_summary(alloc: Global, variable: u32) -> Result<Summary, Memory>
+    ensures { IfOk result (λ m. Describes m (one (assign variable))) }
+{
+    naming(alloc, variable, assign_effect())
+}
+
+fn forget_summary(alloc: Global, variable: u32) -> Result<Summary, Memory>
+    ensures { IfOk result (λ m. Describes m (one (forget variable))) }
+{
+    naming(alloc, variable, forget_effect())
+}
+
+fn break_summary(alloc: Global) -> Result<Summary, Memory>
+    ensures { IfOk result (λ m. DescribesBreak m) }
+{
+    Ok(plain(alloc, only_breaks()))
+}
+
+fn continue_summary(alloc: Global) -> Result<Summary, Memory>
+    ensures { IfOk result (λ m. DescribesContinue m) }
+{
+    Ok(plain(alloc, only_continues()))
+}
+
+fn return_summary(alloc: Global) -> Result<Summary, Memory>
+    ensures { IfOk result (λ m. DescribesReturn m) }
+{
+    Ok(plain(alloc, no_endings().exits))
 }
 
 fn arm_summary(alloc: Global, test: Summary, always: bool, body: Summary) -> Result<Summary, Memory>
@@ -111,9 +147,17 @@ fn arm_summary(alloc: Global, test: Summary, always: bool, body: Summary) -> Res
     summary_behind(alloc, &test, &done)
 }
 
-fn if_summary(alloc: Global, parts: Vec<Summary>) -> Result<Summary, Memory>
-    ensures { IfOk result (λ m. (fs : Steps) → Together parts.items fs → Describes m (one (choice fs))) }
+fn put(parts: &mut Vec<Summary>, one: Summary) -> Result<(), Memory>
+    ensures { OnOk result (parts.new.items ≡ parts.old.items ++ one ∷ []) }
 {
+    parts.push(one)?;
+    Ok(())
+}
+
+fn if_summary(alloc: Global, mut parts: Vec<Summary>, rest: Summary) -> Result<Summary, Memory>
+    ensures { IfOk result (λ m. (fs gs : Steps) → TogetherWith parts.items gs fs → Describes rest gs → Describes m (one (choice fs))) }
+{
+    put(&mut parts, rest)?;
     let all = joined(alloc, parts)?;
     summary_in_frame(alloc, Frame::If, &all)
 }
@@ -127,50 +171,55 @@ fn loop_summary(alloc: Global, test: Summary, ends: bool, body: Summary) -> Resu
 }
 
 #[cycle(digest)]
-#[tactic(none)]
 fn digest_note(alloc: Global, note: &Note) -> Result<Summary, Memory>
     ensures { IfOk result (λ m. Describes m (one (step_of note.now))) }
 {
     match note {
-        Note::Broken(_) => plain_note(alloc, only_goes()),
-        Note::Read(x, p) => naming(alloc, *x, read_effect(*p)),
-        Note::Assign(x) => naming(alloc, *x, assign_effect()),
-        Note::Forget(x) => naming(alloc, *x, forget_effect()),
-        Note::If(arms, rest) => digest_if(alloc, arms.as_slice(), rest.as_slice()),
-        Note::Loop(test, ends, body) => {
-            digest_loop(alloc, test.as_slice(), *ends, body.as_slice())
+        Note::Broken(_) => passing_summary(alloc),
+        Note::Read(variable, place) => read_summary(alloc, *variable, *place),
+        Note::Assign(variable) => assign_summary(alloc, *variable),
+        Note::Forget(variable) => forget_summary(alloc, *variable),
+        Note::If(arms, rest) => {
+            let arms = arms.as_slice();
+            let rest = rest.as_slice();
+            digest_if(alloc, arms, rest)
         }
-        Note::Break(_) => plain_note(alloc, only_breaks()),
-        Note::Continue(_) => plain_note(alloc, only_continues()),
-        Note::Return => plain_note(alloc, no_endings().exits),
+        Note::Loop(test, ends, body) => {
+            let test = test.as_slice();
+            let body = body.as_slice();
+            digest_loop(alloc, test, *ends, body)
+        }
+        Note::Break(_) => break_summary(alloc),
+        Note::Continue(_) => continue_summary(alloc),
+        Note::Return => return_summary(alloc),
     }
 }
 
 #[cycle(digest)]
-#[tactic(none)]
 fn digest_arm(alloc: Global, arm: &NoteArm) -> Result<Summary, Memory>
     ensures { IfOk result (λ m. Describes m (arm_of arm.now)) }
 {
-    let test = digest(alloc, arm.test.as_slice())?;
-    let body = digest(alloc, arm.body.as_slice())?;
+    let before = arm.test.as_slice();
+    let inside = arm.body.as_slice();
+    let test = digest(alloc, before)?;
+    let body = digest(alloc, inside)?;
     arm_summary(alloc, test, arm.always, body)
 }
 
 #[cycle(digest)]
-#[tactic(none)]
 fn digest_if(alloc: Global, arms: &[NoteArm], rest: &[Note]) -> Result<Summary, Memory>
     ensures { IfOk result (λ m. Describes m (one (an_if (arms_of arms.now) (steps_of rest.now)))) }
 {
     let mut parts = Vec::new(alloc);
     for arm in arms {
-        parts.push(digest_arm(alloc, arm)?)?;
+        let one = digest_arm(alloc, arm)?;
+        put(&mut parts, one)?;
     }
-    parts.push(digest(alloc, rest)?)?;
-    if_summary(alloc, parts)
+    let last = digest(alloc, rest)?;
+    if_summary(alloc, parts, last)
 }
 
 #[cycle(digest)]
-#[tactic(none)]
 fn digest_loop(alloc: Global, test: &[Note], ends: bool, body: &[Note]) -> Result<Summary, Memory>
     ensures { IfOk result (λ m. Describes m (one (a_loop (steps_of test.now) ends (steps_of body.now)))) }
 {
@@ -181,13 +230,13 @@ fn digest_loop(alloc: Global, test: &[Note], ends: bool, body: &[Note]) -> Resul
 
 /// The summary of notes.
 #[cycle(digest)]
-#[tactic(none)]
 pub(crate) fn digest(alloc: Global, notes: &[Note]) -> Result<Summary, Memory>
     ensures { IfOk result (λ m. Describes m (steps_of notes.now)) }
 {
     let mut parts = Vec::new(alloc);
     for note in notes {
-        parts.push(digest_note(alloc, note)?)?;
+        let one = digest_note(alloc, note)?;
+        put(&mut parts, one)?;
     }
     joined(alloc, parts)
 }

@@ -1,7 +1,7 @@
 //! What the body of a function does as far as paths go, and the first rule on paths that it breaks.
 #![tactic(auto)]
 
-mod broken;
+mod answer;
 mod digest;
 mod endings;
 mod joining;
@@ -13,5 +13,5 @@ mod summary;
 mod tests;
 mod told;
 
-pub use broken::broken;
+pub use answer::broken;
 pub use note::{Note, NoteArm, Notes};

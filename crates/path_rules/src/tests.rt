@@ -1,6 +1,6 @@
 //! Bodies of a few statements.
 
-use crate::broken::broken;
+use crate::answer::broken;
 use crate::note::{Note, NoteArm, Notes};
 use puya_base::{List, Memory, Place, Refusal, Rule};
 use std::alloc::Global;

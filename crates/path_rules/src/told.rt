@@ -1,7 +1,7 @@
 //! What is broken wherever it stands: what was noted so, and loop words outside loops.
 
-ghost use Rattle.std.specs.Prelude.{◌≡◌, Bool};
-ghost use Rattle.path_rules.specs.Steps.{an_if, a_loop, step_of, steps_of, arm_of, arms_of};
+ghost use Rattle.std.specs.Prelude.{◌≡◌, true};
+ghost use Rattle.path_rules.specs.Steps.{an_if, step_of, steps_of, arm_of, arms_of};
 ghost use Rattle.path_rules.specs.Told as spec;
 
 use crate::note::{Note, NoteArm};
@@ -19,7 +19,6 @@ fn loop_word(first: Option<Refusal>, inside: bool, place: Place) -> Option<Refus
 }
 
 #[cycle(told)]
-#[tactic(none)]
 fn told_by_note(first: Option<Refusal>, inside: bool, note: &Note) -> Option<Refusal>
     ensures { result ≡ spec.told_by first inside (step_of note.now) }
 {
@@ -28,9 +27,15 @@ fn told_by_note(first: Option<Refusal>, inside: bool, note: &Note) -> Option<Ref
         Note::Read(_, _) => first,
         Note::Assign(_) => first,
         Note::Forget(_) => first,
-        Note::If(arms, rest) => told_by_if(first, inside, arms.as_slice(), rest.as_slice()),
-        Note::Loop(test, ends, body) => {
-            told_by_loop(first, test.as_slice(), *ends, body.as_slice())
+        Note::If(arms, rest) => {
+            let arms = arms.as_slice();
+            let rest = rest.as_slice();
+            told_by_if(first, inside, arms, rest)
+        }
+        Note::Loop(test, _, body) => {
+            let test = test.as_slice();
+            let body = body.as_slice();
+            told_by_loop(first, test, body)
         }
         Note::Break(p) => loop_word(first, inside, *p),
         Note::Continue(p) => loop_word(first, inside, *p),
@@ -39,16 +44,16 @@ fn told_by_note(first: Option<Refusal>, inside: bool, note: &Note) -> Option<Ref
 }
 
 #[cycle(told)]
-#[tactic(none)]
 fn told_by_arm(first: Option<Refusal>, inside: bool, arm: &NoteArm) -> Option<Refusal>
     ensures { result ≡ spec.told_by_all first inside (arm_of arm.now) }
 {
-    let first = told_by(first, inside, arm.test.as_slice());
-    told_by(first, inside, arm.body.as_slice())
+    let before = arm.test.as_slice();
+    let body = arm.body.as_slice();
+    let behind_test = told_by(first, inside, before);
+    told_by(behind_test, inside, body)
 }
 
 #[cycle(told)]
-#[tactic(none)]
 fn told_by_if(first: Option<Refusal>, inside: bool, arms: &[NoteArm], rest: &[Note]) -> Option<Refusal>
     ensures { result ≡ spec.told_by first inside (an_if (arms_of arms.now) (steps_of rest.now)) }
 {
@@ -59,19 +64,16 @@ fn told_by_if(first: Option<Refusal>, inside: bool, arms: &[NoteArm], rest: &[No
     told_by(first, inside, rest)
 }
 
-/// Nothing is told of whether a loop can end.
 #[cycle(told)]
-#[tactic(none)]
-fn told_by_loop(first: Option<Refusal>, test: &[Note], _ends: bool, body: &[Note]) -> Option<Refusal>
-    ensures { (inside : Bool) → result ≡ spec.told_by first inside (a_loop (steps_of test.now) _ends (steps_of body.now)) }
+fn told_by_loop(first: Option<Refusal>, test: &[Note], body: &[Note]) -> Option<Refusal>
+    ensures { result ≡ spec.told_by_all (spec.told_by_all first true (steps_of test.now)) true (steps_of body.now) }
 {
-    let first = told_by(first, true, test);
-    told_by(first, true, body)
+    let behind_test = told_by(first, true, test);
+    told_by(behind_test, true, body)
 }
 
 /// The first refusal of those so far and of those that the notes tell.
 #[cycle(told)]
-#[tactic(none)]
 pub(crate) fn told_by(first: Option<Refusal>, inside: bool, notes: &[Note]) -> Option<Refusal>
     ensures { result ≡ spec.told_by_all first inside (steps_of notes.now) }
 {

@@ -48,10 +48,11 @@ fn where_it_holds(holds: bool, place: Option<Place>) -> Option<Place>
 pub fn broken(alloc: Global, notes: &Notes, end: Option<Place>) -> Result<Option<Refusal>, Memory>
     ensures { IfOk result (λ first. IsFirst (IsBroken notes.now end) first) }
 {
-    let summary = digest(alloc, notes.as_slice())?;
+    let listed = notes.as_slice();
+    let summary = digest(alloc, listed)?;
     let read = first_read(summary.touched.as_slice());
     let missing = where_it_holds(summary.others.goes, end);
-    let told = told_by(None, false, notes.as_slice());
+    let told = told_by(None, false, listed);
     let first = earlier_refusal(told, refused_at(Rule::P17, read));
     Ok(earlier_refusal(first, refused_at(Rule::P18, missing)))
 }
