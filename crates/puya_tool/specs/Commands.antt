@@ -1,5 +1,5 @@
 -- What each command answers, where contents are told, and what then stands.
-use Rattle.std.specs.Prelude.{◌≡◌, ◌≢◌, ℕ, true, false, ◌≤◌, ◌⊎◌, ◌==◌, if◌then◌else◌, List, [], length, codes, Option, Some, None, Ok, Err}
+use Rattle.std.specs.Prelude.{◌≡◌, ◌≢◌, ℕ, true, false, ◌≤◌, ◌⊎◌, ◌==◌, if◌then◌else◌, bytes_eq, List, [], ◌∷◌, length, codes, Option, Some, None, Result, Ok, Err}
 use Rattle.std.specs.FinMap as map
 use Rattle.puya_base.specs.declared.faults.FileFault.{FileFault}
 use Rattle.puya_base.specs.declared.faults.FileFault.TheVariants as fault
@@ -17,9 +17,12 @@ use Rattle.call_file.specs.declared.fault.CallFault.TheVariants as call
 use Rattle.call_file.specs.declared.saved.Saved.{Saved}
 use Rattle.call_file.specs.Saved.{saved_of}
 use Rattle.puya_tool.specs.declared.answer.Answer.{Answer}
-use Rattle.puya_tool.specs.declared.answer.Answer.TheVariants.{WordsUnknown, Unread, NotBuilt, BadCall, NotProgram, NotTeal, NotAssembled, Unwritten, Stopped, Assembled, Listed}
-use Rattle.puya_tool.specs.declared.source.Sum.{Sum}
-use Rattle.puya_tool.specs.Source.{IsSource, Serves, IsClear, contract_name, program_of, clear_program}
+use Rattle.puya_tool.specs.declared.answer.Answer.TheVariants.{WordsUnknown, Unread, Refused, NotBuilt, BadCall, NotProgram, NotTeal, NotAssembled, Unwritten, Stopped, Assembled, Listed}
+use Rattle.compiler.specs.declared.build.Build.{Build}
+use Rattle.compiler.specs.Form.{Form}
+use Rattle.compiler.specs.Programs.{Serves, IsClear}
+use Rattle.compiler.specs.Source.{IsBroken}
+use Rattle.compiler.specs.Compiled.{AreBuilt, HasForm, HasOtherForm}
 use Rattle.puya_tool.specs.Words.{Command, Call as CallCommand, Run, Asm, Dis, command_of, bin_name}
 
 -- the bytes are held under the name, and are no longer than a file may be
@@ -35,10 +38,10 @@ abbrev pub IsUnreadInTurn : Held → List ℕ → List ℕ → Type 0 → List �
 IsUnreadInTurn held first second Reached name f = IsUnread held name f × ((name ≡ first) ⊎ ((name ≡ second) × Reached))
 
 -- a source of the form is held there
-pub record HoldsSource (held : Held) (file : List ℕ) (s : Sum) : Type 0 where
+pub record HoldsSource (held : Held) (file : List ℕ) (f : Form) : Type 0 where
   pub text : List ℕ
   pub held_is : IsHeld held file text
-  pub source_is : IsSource text s
+  pub source_is : HasForm text f
 
 -- a well-formed program is held there
 pub record HoldsProgram (held : Held) (file : List ℕ) (code : List ℕ) : Type 0 where
@@ -58,31 +61,59 @@ abbrev pub picked : ℕ → List ℕ → List ℕ → List ℕ
 picked completion approval clear = if completion == clear_state then clear else approval
 
 -- one program for approval and one for the clear state serve the source, and this is the picked one's run
-pub record IsServedBy (s : Sum) (saved : Saved) (ran : Ran) : Type 0 where
+pub record IsServedBy (f : Form) (saved : Saved) (ran : Ran) : Type 0 where
   pub approval : List ℕ
   pub clear : List ℕ
-  pub serves : Serves s approval
+  pub serves : Serves f.sum approval
   pub clears : IsClear clear
   pub ran_is : ran ≡ run_of (picked saved.call.on_completion approval clear) saved.call saved.ledger
 
 -- the call file has this fault: its form's, or it names no contract of the source
-abbrev pub IsBadCall : List ℕ → CallFault → Type 0
-IsBadCall text f =
+abbrev pub IsBadCall : Form → List ℕ → CallFault → Type 0
+IsBadCall form text f =
     (saved_of true text ≡ Err f)
-    ⊎ ((saved : Saved) × (saved_of true text ≡ Ok saved) × (saved.contract ≢ Some contract_name) × (f ≡ call.Bad (codes "contract")))
+    ⊎ ((saved : Saved) × (saved_of true text ≡ Ok saved) × (saved.contract ≢ Some form.name) × (f ≡ call.Bad (codes "contract")))
 
--- how a call of the source ends that is saved so, by the programs that are built
-abbrev pub NamedEnds : Sum → List ℕ → Saved → Answer → Type 0
-NamedEnds s file saved (BadCall name f) = (name ≡ file) × (saved.contract ≢ Some contract_name) × (f ≡ call.Bad (codes "contract"))
-NamedEnds s file saved (Stopped ran) =
-    (saved.contract ≡ Some contract_name) × (ran ≡ run_of (picked saved.call.on_completion (program_of s) clear_program) saved.call saved.ledger)
-NamedEnds s file saved _ = ⊥
+-- the first build of a name
+abbrev pub named : List ℕ → List Build → Option Build
+named name [] = None
+named name (b ∷ bs) = if bytes_eq b.name name then Some b else named name bs
+
+-- the build that a saved call names
+abbrev pub build_named : Option (List ℕ) → List Build → Option Build
+build_named None builds = None
+build_named (Some name) builds = named name builds
+
+-- how a call ends that is saved so, of these builds
+abbrev pub NamedEnds : List Build → List ℕ → Saved → Answer → Type 0
+NamedEnds builds file saved (BadCall name f) = (name ≡ file) × (build_named saved.contract builds ≡ None) × (f ≡ call.Bad (codes "contract"))
+NamedEnds builds file saved (Stopped ran) =
+    (b : Build) × (build_named saved.contract builds ≡ Some b) × (ran ≡ run_of (picked saved.call.on_completion b.approval b.clear) saved.call saved.ledger)
+NamedEnds builds file saved _ = ⊥
+
+-- how a call ends of these builds, whose call file has this text
+abbrev pub TextEnds : List Build → List ℕ → List ℕ → Answer → Type 0
+TextEnds builds file text (BadCall name f) = (name ≡ file) × ((saved_of true text ≡ Err f) ⊎ ((saved : Saved) × (saved_of true text ≡ Ok saved) × NamedEnds builds file saved (BadCall name f)))
+TextEnds builds file text (Stopped ran) = (saved : Saved) × (saved_of true text ≡ Ok saved) × NamedEnds builds file saved (Stopped ran)
+TextEnds builds file text _ = ⊥
+
+-- both programs of each build are well formed
+abbrev pub AreWellFormed : List Build → Type 0
+AreWellFormed [] = Unit {0}
+AreWellFormed (b ∷ bs) = IsWellFormed b.approval × IsWellFormed b.clear × AreWellFormed bs
+
+-- what a source is compiled to, or the answer where it is refused
+abbrev pub Judged : List ℕ → List ℕ → Result (List Build) Answer → Type 0
+Judged file text (Ok builds) = (form : Form) × HasForm text form × AreBuilt form builds
+Judged file text (Err (Refused name refusal)) = (name ≡ file) × IsBroken text refusal
+Judged file text (Err (NotBuilt name)) = (name ≡ file) × HasOtherForm text
+Judged file text (Err _) = ⊥
 
 -- how a call of the source ends, whose call file has this text
-abbrev pub CallEnds : Sum → List ℕ → List ℕ → Answer → Type 0
-CallEnds s file text (BadCall name f) = (name ≡ file) × IsBadCall text f
-CallEnds s file text (Stopped ran) = (saved : Saved) × (saved_of true text ≡ Ok saved) × (saved.contract ≡ Some contract_name) × IsServedBy s saved ran
-CallEnds s file text _ = ⊥
+abbrev pub CallEnds : Form → List ℕ → List ℕ → Answer → Type 0
+CallEnds form file text (BadCall name f) = (name ≡ file) × IsBadCall form text f
+CallEnds form file text (Stopped ran) = (saved : Saved) × (saved_of true text ≡ Ok saved) × (saved.contract ≡ Some form.name) × IsServedBy form saved ran
+CallEnds form file text _ = ⊥
 
 -- how a run of the program ends, whose call file has this text: it may be any starting ledger
 abbrev pub RunEnds : List ℕ → List ℕ → List ℕ → Answer → Type 0
@@ -92,9 +123,10 @@ RunEnds code file text _ = ⊥
 
 -- what `call` answers
 abbrev pub CallAnswers : Held → List ℕ → List ℕ → Answer → Type 0
-CallAnswers held file call (Unread name f) = IsUnreadInTurn held file call ((s : Sum) × HoldsSource held file s) name f
-CallAnswers held file call (NotBuilt name) = (name ≡ file) × (text : List ℕ) × IsHeld held file text × ((s : Sum) → IsSource text s → ⊥)
-CallAnswers held file call answer = (s : Sum) × HoldsSource held file s × (text : List ℕ) × IsHeld held call text × CallEnds s call text answer
+CallAnswers held file call (Unread name f) = IsUnreadInTurn held file call ((form : Form) × HoldsSource held file form) name f
+CallAnswers held file call (Refused name refusal) = (name ≡ file) × (text : List ℕ) × IsHeld held file text × IsBroken text refusal
+CallAnswers held file call (NotBuilt name) = (name ≡ file) × (text : List ℕ) × IsHeld held file text × HasOtherForm text
+CallAnswers held file call answer = (form : Form) × HoldsSource held file form × (text : List ℕ) × IsHeld held call text × CallEnds form call text answer
 
 -- what `run` answers
 abbrev pub RunAnswers : Held → List ℕ → List ℕ → Answer → Type 0

@@ -1,4 +1,3 @@
-pub mod Source
 pub mod Words
 pub mod Text
 pub mod Commands
@@ -16,3 +15,7 @@ pub use Rattle.call_file.specs.Saved
 pub use Rattle.outcome_text.specs.Text as OutcomeText
 pub use Rattle.puya_base.specs.Files
 pub use Rattle.puya_base.specs.Causes
+pub use Rattle.compiler.specs.Form as SourceForm
+pub use Rattle.compiler.specs.Source
+pub use Rattle.compiler.specs.Programs
+pub use Rattle.compiler.specs.Compiled

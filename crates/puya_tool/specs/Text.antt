@@ -1,6 +1,9 @@
 -- What is printed, and the status that goes with it.
 use Rattle.std.specs.Prelude.{ℕ, List, [], ◌∷◌, ◌++◌, codes}
 use Rattle.std.specs.Fmt.{decimal, signed_decimal}
+use Rattle.puya_base.specs.declared.source.Rule.{Rule}
+use Rattle.puya_base.specs.declared.source.Rule.TheVariants as rule
+use Rattle.puya_base.specs.declared.source.Refusal.{Refusal}
 use Rattle.puya_base.specs.declared.faults.FileFault.{FileFault}
 use Rattle.puya_base.specs.declared.faults.FileFault.TheVariants as file
 use Rattle.avm_run.specs.declared.outcome.Outcome.{Outcome}
@@ -17,7 +20,7 @@ use Rattle.outcome_text.specs.Text.{text_of}
 use Rattle.puya_tool.specs.declared.status.Status.{Status}
 use Rattle.puya_tool.specs.declared.status.Status.TheVariants as status
 use Rattle.puya_tool.specs.declared.answer.Answer.{Answer}
-use Rattle.puya_tool.specs.declared.answer.Answer.TheVariants.{WordsUnknown, Unread, NotBuilt, BadCall, NotProgram, NotTeal, NotAssembled, Unwritten, Stopped, Assembled, Listed}
+use Rattle.puya_tool.specs.declared.answer.Answer.TheVariants.{WordsUnknown, Unread, Refused, NotBuilt, BadCall, NotProgram, NotTeal, NotAssembled, Unwritten, Stopped, Assembled, Listed}
 
 abbrev pub file_fault_text : FileFault → List ℕ
 file_fault_text file.Missing = codes "missing"
@@ -62,6 +65,38 @@ asm_fault_text (asm.TwiceLabel k) = label_text k (codes " twice")
 asm_fault_text (asm.Far k d) = label_text k (codes " far")
 asm_fault_text asm.Memory = []
 
+-- a rule by its number and its word
+unfoldable pub rule_text : Rule → List ℕ
+rule_text rule.P01 = codes "P01 text"
+rule_text rule.P02 = codes "P02 tab"
+rule_text rule.P03 = codes "P03 indentation"
+rule_text rule.P04 = codes "P04 token"
+rule_text rule.P05 = codes "P05 number"
+rule_text rule.P06 = codes "P06 nesting"
+rule_text rule.P07 = codes "P07 syntax"
+rule_text rule.P08 = codes "P08 left out"
+rule_text rule.P09 = codes "P09 unknown name"
+rule_text rule.P10 = codes "P10 defined twice"
+rule_text rule.P11 = codes "P11 import"
+rule_text rule.P12 = codes "P12 contract"
+rule_text rule.P13 = codes "P13 annotation"
+rule_text rule.P14 = codes "P14 type"
+rule_text rule.P15 = codes "P15 arguments"
+rule_text rule.P16 = codes "P16 target"
+rule_text rule.P17 = codes "P17 unassigned"
+rule_text rule.P18 = codes "P18 no return"
+rule_text rule.P19 = codes "P19 loop word"
+rule_text rule.P20 = codes "P20 ARC-4 literal"
+rule_text rule.P21 = codes "P21 storage"
+rule_text rule.P22 = codes "P22 decorator"
+rule_text rule.P23 = codes "P23 selector twice"
+rule_text rule.P24 = codes "P24 places"
+rule_text rule.P25 = codes "P25 copy"
+
+-- a broken rule behind its line and its column
+unfoldable pub refusal_text : Refusal → List ℕ
+refusal_text r = decimal r.place.line ++ (codes ":" ++ (decimal r.place.col ++ (codes ": " ++ rule_text r.rule)))
+
 -- a line that begins with a name
 abbrev pub named_line : List ℕ → List ℕ → List ℕ → List ℕ
 named_line name mark text = name ++ (mark ++ (text ++ codes "\n"))
@@ -70,6 +105,7 @@ named_line name mark text = name ++ (mark ++ (text ++ codes "\n"))
 unfoldable pub answer_text : Answer → List ℕ
 answer_text WordsUnknown = codes "words not understood\n"
 answer_text (Unread name f) = named_line name (codes ": ") (file_fault_text f)
+answer_text (Refused name r) = named_line name (codes ":") (refusal_text r)
 answer_text (NotBuilt name) = named_line name (codes ": ") (codes "not built")
 answer_text (BadCall name f) = named_line name (codes ": ") (call_fault_text f)
 answer_text (NotProgram name f) = named_line name (codes ": ") (program_fault_text f)
@@ -89,6 +125,7 @@ outcome_status outcome.OverDepth = status.Stopped
 abbrev pub answer_status : Answer → Status
 answer_status WordsUnknown = status.Words
 answer_status (Unread name f) = status.ReadFault
+answer_status (Refused name r) = status.Source
 answer_status (NotBuilt name) = status.Source
 answer_status (BadCall name f) = status.CallFile
 answer_status (NotProgram name f) = status.Program

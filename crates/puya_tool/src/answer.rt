@@ -5,7 +5,7 @@ use crate::text::text_of;
 use avm_asm::AsmFault;
 use avm_run::{ProgramFault, Ran};
 use call_file::CallFault;
-use puya_base::{Blob, FileFault, Memory, Name};
+use puya_base::{Blob, FileFault, Memory, Name, Refusal};
 use std::alloc::Global;
 use teal_text::TealFault;
 
@@ -14,6 +14,8 @@ use teal_text::TealFault;
 pub enum Answer {
     WordsUnknown,
     Unread(Name, FileFault),
+    /// The source breaks a rule.
+    Refused(Name, Refusal),
     NotBuilt(Name),
     BadCall(Name, CallFault),
     NotProgram(Name, ProgramFault),

@@ -1,41 +1,54 @@
-ghost use Rattle.std.specs.Prelude.{◌≡◌, ◌≤◌, ◌<◌, ◌^◌, IfOk, IfSome};
-ghost use Rattle.puya_tool.specs.Commands.{CallAnswers, CallEnds, NamedEnds};
+ghost use Rattle.std.specs.Prelude.{◌≡◌, ◌≤◌, IfOk, IfSome, length};
+ghost use Rattle.compiler.specs.Compiled.{AreBuilt, IsCompiled};
+ghost use Rattle.puya_tool.specs.Commands.{AreWellFormed, CallAnswers, Judged, NamedEnds, TextEnds};
 ghost use Rattle.puya_tool.specs.Promise.{AnswersBy};
 
 use crate::answer::{Answer, unread};
-use crate::program::run_sum;
-use crate::saved_call::{bad_call, bad_contract, names_contract, saved_or};
-use crate::source::{Sum, parsed};
+use crate::programs::{build_named, run_build};
+use crate::saved_call::{bad_call, bad_contract, saved_or};
 use call_file::Saved;
-use puya_base::{Blob, Files, Memory, Name};
+use compiler::{Builds, CompileFault, compile};
+use puya_base::{Blob, Files, Level, Memory, Name};
 use std::alloc::Global;
 
-/// Runs a saved call on the programs of a source, where it names the source's contract.
-fn run_named(alloc: Global, sum: Sum, file: &str, saved: Saved) -> Result<Answer, Memory>
-    requires left { sum.left < 2 ^ 64 }
-    requires right { sum.right < 2 ^ 64 }
-    ensures { IfOk result (λ a. NamedEnds sum file.now saved a) }
+/// Runs a saved call on the programs of the contract that it names.
+fn run_named(alloc: Global, builds: &Builds, file: &str, saved: Saved) -> Result<Answer, Memory>
+    requires { AreWellFormed builds.now }
+    ensures { IfOk result (λ a. NamedEnds builds.now file.now saved a) }
 {
-    if names_contract(&saved) {
-        Ok(Answer::Stopped(run_sum(alloc, sum, saved)?))
-    } else {
-        bad_contract(alloc, file, saved)
+    match build_named(builds, &saved) {
+        Some(build) => Ok(Answer::Stopped(run_build(alloc, build, saved)?)),
+        None => bad_contract(alloc, file, saved),
     }
 }
 
-/// The answer once the source is read: its call file has this text.
-fn call_saved(alloc: Global, sum: Sum, file: &str, text: &[u8]) -> Result<Answer, Memory>
-    requires left { sum.left < 2 ^ 64 }
-    requires right { sum.right < 2 ^ 64 }
-    ensures { IfOk result (λ a. CallEnds sum file.now text.now a) }
+/// The answer once the source is compiled: its call file has this text.
+fn call_saved(alloc: Global, builds: &Builds, file: &str, text: &[u8]) -> Result<Answer, Memory>
+    requires { AreWellFormed builds.now }
+    ensures { IfOk result (λ a. TextEnds builds.now file.now text.now a) }
 {
     match saved_or(alloc, text, true)? {
         Err(fault) => bad_call(alloc, file, fault),
-        Ok(saved) => run_named(alloc, sum, file, saved),
+        Ok(saved) => run_named(alloc, builds, file, saved),
     }
 }
 
-/// The answer to `call`: the source is read first, then the call file.
+/// The programs of a source, or the answer where it is refused.
+fn compiled(alloc: Global, file: &str, source: &[u8]) -> Result<Result<Builds, Answer>, Memory>
+    requires { length source.now ≤ 1048576 }
+    ensures { IfOk result (λ r. Judged file.now source.now r) }
+{
+    match compile(alloc, source, Level::L1) {
+        Ok(builds) => Ok(Ok(builds)),
+        Err(CompileFault::Refused(refusal)) => {
+            Ok(Err(Answer::Refused(Name::new(alloc, file)?, refusal)))
+        }
+        Err(CompileFault::NotBuilt) => Ok(Err(Answer::NotBuilt(Name::new(alloc, file)?))),
+        Err(CompileFault::Memory) => Err(Memory),
+    }
+}
+
+/// The answer to `call`: the source is read and compiled first, then the call file is read.
 pub(crate) fn called<F: Files>(
     alloc: Global,
     file: &str,
@@ -47,16 +60,17 @@ pub(crate) fn called<F: Files>(
     ensures later { F.faults files.old ≤ F.faults files.new }
     ensures kept { F.contents files.new ≡ F.contents files.old }
 {
-    let mut text = Blob::new(alloc);
-    if let Err(fault) = files.read(file, &mut text) {
+    let mut source = Blob::new(alloc);
+    if let Err(fault) = files.read(file, &mut source) {
         return unread(alloc, file, fault);
     }
-    let Some(sum) = parsed(alloc, text.as_slice())? else {
-        return Ok(Answer::NotBuilt(Name::new(alloc, file)?));
+    let builds = match compiled(alloc, file, source.as_slice())? {
+        Ok(builds) => builds,
+        Err(answer) => return Ok(answer),
     };
-    let mut call_text = Blob::new(alloc);
-    if let Err(fault) = files.read(call, &mut call_text) {
+    let mut text = Blob::new(alloc);
+    if let Err(fault) = files.read(call, &mut text) {
         return unread(alloc, call, fault);
     }
-    call_saved(alloc, sum, call, call_text.as_slice())
+    call_saved(alloc, &builds, call, text.as_slice())
 }

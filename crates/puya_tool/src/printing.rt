@@ -13,6 +13,7 @@ pub(crate) fn status_of(answer: &Answer) -> Status
     match answer {
         Answer::WordsUnknown => Status::Words,
         Answer::Unread(_, _) => Status::ReadFault,
+        Answer::Refused(_, _) => Status::Source,
         Answer::NotBuilt(_) => Status::Source,
         Answer::BadCall(_, _) => Status::CallFile,
         Answer::NotProgram(_, _) => Status::Program,

@@ -1,6 +1,5 @@
-ghost use Rattle.std.specs.Prelude.{◌≡◌, ◌↔◌, IfOk, IsTrue, Some, codes};
+ghost use Rattle.std.specs.Prelude.{◌≡◌, IfOk, codes};
 ghost use Rattle.call_file.specs.Saved.{saved_of};
-ghost use Rattle.puya_tool.specs.Source.{contract_name};
 
 use crate::answer::Answer;
 use call_file::{CallFault, Saved, read_call};
@@ -43,14 +42,4 @@ pub(crate) fn bad_contract(alloc: Global, file: &str, saved: Saved) -> Result<An
     } = saved;
     let field = Name::new(alloc, "contract")?;
     bad_call(alloc, file, CallFault::Bad(field))
-}
-
-/// Whether the saved call names the contract of the source.
-pub(crate) fn names_contract(saved: &Saved) -> bool
-    ensures { IsTrue result ↔ (saved.now.contract ≡ Some contract_name) }
-{
-    match &saved.contract {
-        Some(name) => name.as_str() == "T",
-        None => false,
-    }
 }

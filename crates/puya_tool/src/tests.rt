@@ -61,7 +61,7 @@ fn files_of(alloc: Global, body: &str, call: &str) -> Result<MemoryFiles, Fail> 
 
 const CALL: [&str; 3] = ["call", "t.py", "c.json"];
 
-const BODIES: [(&str, Status, &str); 12] = [
+const BODIES: [(&str, Status, &str); 16] = [
     ("UInt64(6) * UInt64(7)", Status::Done, "approved\ncost 4\n"),
     (
         "UInt64(0) + UInt64(0)",
@@ -88,20 +88,32 @@ const BODIES: [(&str, Status, &str); 12] = [
     (
         "UInt64(06) * UInt64(7)",
         Status::Source,
-        "t.py: not built\n",
+        "t.py:4:23: P05 number\n",
     ),
     (
         "UInt64(18446744073709551616) * UInt64(7)",
         Status::Source,
-        "t.py: not built\n",
+        "t.py:4:23: P05 number\n",
     ),
     (
-        "UInt64(6) * UInt64(7) # product",
+        "UInt64(0x6)*UInt64( 0_7 ) # product",
+        Status::Source,
+        "t.py:4:36: P05 number\n",
+    ),
+    (
+        "UInt64(0x6)*UInt64( 7 ) # product",
+        Status::Done,
+        "approved\ncost 4\n",
+    ),
+    ("UInt64() * UInt64(7)", Status::Source, "t.py: not built\n"),
+    ("(1 +)", Status::Source, "t.py:4:20: P07 syntax\n"),
+    ("1 < 2 < 3", Status::Source, "t.py:4:22: P07 syntax\n"),
+    ("'a", Status::Source, "t.py:4:16: P04 token\n"),
+    (
+        "UInt64(6) * UInt64(7,)",
         Status::Source,
         "t.py: not built\n",
     ),
-    ("UInt64(6)*UInt64(7)", Status::Source, "t.py: not built\n"),
-    ("UInt64() * UInt64(7)", Status::Source, "t.py: not built\n"),
 ];
 
 #[test]
@@ -113,6 +125,27 @@ fn one_operation_is_compiled_and_run(rt: HostRuntime) -> Result<(), Fail> {
         let (got_status, got_text) = outcome(alloc, &CALL, &mut files)?;
         assert_eq!(rt; got_status, status, "{body}");
         assert_eq!(rt; got_text.as_str(), text, "{body}");
+    }
+    Ok(())
+}
+
+/// Sources without a contract of the form.
+const SOURCES: [(&str, &str); 4] = [
+    ("x = y", "s.py:1:5: P07 syntax\n"),
+    ("  x = 1", "s.py:1:3: P03 indentation\n"),
+    ("\tx = 1", "s.py:1:1: P02 tab\n"),
+    ("x = 1", "s.py: not built\n"),
+];
+
+#[test]
+fn a_source_is_refused_before_its_call_file_is_read(rt: HostRuntime) -> Result<(), Fail> {
+    let alloc = rt.alloc();
+    for (source, text) in SOURCES {
+        let mut files = MemoryFiles::new(alloc);
+        files.add("s.py", source.as_bytes())?;
+        let (got_status, got_text) = outcome(alloc, &["call", "s.py", "absent"], &mut files)?;
+        assert_eq!(rt; got_status, Status::Source, "{source}");
+        assert_eq!(rt; got_text.as_str(), text, "{source}");
     }
     Ok(())
 }

@@ -1,14 +1,14 @@
 ghost use Rattle.std.specs.Prelude.{◌≡◌, ◌++◌, codes, IfOk, OnOk};
 ghost use Rattle.std.specs.Fmt.{decimal, signed_decimal};
 ghost use Rattle.outcome_text.specs.Text as outcome;
-ghost use Rattle.puya_tool.specs.Text.{answer_text, asm_fault_text, call_fault_text, file_fault_text, label_text, line_text, named_line, program_fault_text, teal_fault_text};
+ghost use Rattle.puya_tool.specs.Text.{answer_text, asm_fault_text, call_fault_text, file_fault_text, label_text, line_text, named_line, program_fault_text, refusal_text, rule_text, teal_fault_text};
 
 use crate::answer::Answer;
 use avm_asm::AsmFault;
 use avm_run::{ProgramFault, Ran};
 use call_file::CallFault;
 use outcome_text::push_ran;
-use puya_base::{Blob, FileFault, Memory};
+use puya_base::{Blob, FileFault, Memory, Refusal, Rule};
 use std::alloc::Global;
 use teal_text::TealFault;
 
@@ -142,6 +142,53 @@ fn asm_text(alloc: Global, fault: AsmFault) -> Result<Blob, Memory>
     }
 }
 
+/// A rule by its number and its word.
+#[tactic(auto, unfolding(crate::specs::Text::rule_text))]
+fn rule_word(rule: Rule) -> &'static [u8]
+    ensures { result.now ≡ rule_text rule }
+{
+    match rule {
+        Rule::P01 => b"P01 text",
+        Rule::P02 => b"P02 tab",
+        Rule::P03 => b"P03 indentation",
+        Rule::P04 => b"P04 token",
+        Rule::P05 => b"P05 number",
+        Rule::P06 => b"P06 nesting",
+        Rule::P07 => b"P07 syntax",
+        Rule::P08 => b"P08 left out",
+        Rule::P09 => b"P09 unknown name",
+        Rule::P10 => b"P10 defined twice",
+        Rule::P11 => b"P11 import",
+        Rule::P12 => b"P12 contract",
+        Rule::P13 => b"P13 annotation",
+        Rule::P14 => b"P14 type",
+        Rule::P15 => b"P15 arguments",
+        Rule::P16 => b"P16 target",
+        Rule::P17 => b"P17 unassigned",
+        Rule::P18 => b"P18 no return",
+        Rule::P19 => b"P19 loop word",
+        Rule::P20 => b"P20 ARC-4 literal",
+        Rule::P21 => b"P21 storage",
+        Rule::P22 => b"P22 decorator",
+        Rule::P23 => b"P23 selector twice",
+        Rule::P24 => b"P24 places",
+        Rule::P25 => b"P25 copy",
+    }
+}
+
+/// A broken rule behind its line and its column.
+#[tactic(auto, unfolding(crate::specs::Text::refusal_text))]
+fn of_refusal(alloc: Global, refusal: Refusal) -> Result<Blob, Memory>
+    ensures { IfOk result (λ t. t ≡ refusal_text refusal) }
+{
+    let mut text = worded(alloc, b"", u64::from(refusal.place.line))?;
+    text.extend(b":")?;
+    push_decimal(alloc, &mut text, u64::from(refusal.place.col))?;
+    text.extend(b": ")?;
+    text.extend(rule_word(refusal.rule))?;
+    Ok(text)
+}
+
 /// A name, a mark behind it, a text and a line feed.
 fn named(alloc: Global, name: &str, mark: &[u8], text: &[u8]) -> Result<Blob, Memory>
     ensures { IfOk result (λ t. t ≡ named_line name.now mark.now text.now) }
@@ -151,6 +198,13 @@ fn named(alloc: Global, name: &str, mark: &[u8], text: &[u8]) -> Result<Blob, Me
     line.extend(text)?;
     line.extend(b"\n")?;
     Ok(line)
+}
+
+fn refused(alloc: Global, name: &str, refusal: Refusal) -> Result<Blob, Memory>
+    ensures { IfOk result (λ t. t ≡ named_line name.now (codes ":") (refusal_text refusal)) }
+{
+    let text = of_refusal(alloc, refusal)?;
+    named(alloc, name, b":", text.as_slice())
 }
 
 fn bad_call(alloc: Global, name: &str, fault: &CallFault) -> Result<Blob, Memory>
@@ -213,6 +267,7 @@ pub(crate) fn text_of(alloc: Global, answer: &Answer) -> Result<Blob, Memory>
     match answer {
         Answer::WordsUnknown => Blob::from_slice(alloc, b"words not understood\n"),
         Answer::Unread(name, fault) => named(alloc, name.as_str(), b": ", file_word(*fault)),
+        Answer::Refused(name, refusal) => refused(alloc, name.as_str(), *refusal),
         Answer::NotBuilt(name) => named(alloc, name.as_str(), b": ", b"not built"),
         Answer::BadCall(name, fault) => bad_call(alloc, name.as_str(), fault),
         Answer::NotProgram(name, fault) => not_program(alloc, name.as_str(), *fault),

@@ -1,0 +1,4 @@
+pub mod WellFormed
+pub mod Serving
+pub mod Clearing
+pub mod Forming

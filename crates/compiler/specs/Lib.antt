@@ -1,0 +1,4 @@
+pub mod Form
+pub mod Source
+pub mod Programs
+pub mod Compiled
