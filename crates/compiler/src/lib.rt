@@ -4,6 +4,8 @@
 mod build;
 mod compiling;
 mod form;
+#[cfg(test)]
+mod grammar_tests;
 mod programs;
 #[cfg(test)]
 mod tests;

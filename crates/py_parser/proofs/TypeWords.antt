@@ -1,5 +1,5 @@
 -- The parsers of arguments and types, in the words of their code.
-use Rattle.std.proofs.Common.{◌≡◌, Bool, true, false, cond, map, List, [], ◌∷◌, ◌++◌, Option, Some, None, refl, ◌∙◌, ap, sym as flip}
+use Rattle.std.proofs.Common.{◌≡◌, Bool, true, false, cond, map, List, [], ◌∷◌, ◌++◌, Option, Some, None, is_some, refl, ◌∙◌, ap, sym as flip}
 use Rattle.std.proofs.Math.Path.{fun_ext}
 use Rattle.puya_base.specs.declared.source.Place.{Place}
 use Rattle.py_grammar.specs.declared.symbol.Sym.{Sym}
@@ -17,7 +17,7 @@ use Rattle.py_grammar.specs.declared.type_tree.TypeArg.TheVariants as type_arg
 use Rattle.py_grammar.specs.Codes.{Code, Value}
 use Rattle.py_grammar.specs.Parts.{Part, Made}
 use Rattle.py_grammar.specs.Rules.{Rule, one, part, ◌~◌, ◌∣◌, maybe, many, listed, before, ◌⇒◌, same, has}
-use Rattle.py_grammar.specs.Trees.{word, words, as_name, is_some, keyed as keyed_value}
+use Rattle.py_grammar.specs.Trees.{word, words, as_name, keyed as keyed_value}
 use Rattle.py_grammar.specs.Grammar.{rule, dotted as dotted_rule}
 use Rattle.py_grammar.specs.Ahead.{ahead}
 use Rattle.py_grammar.specs.Parser.{Outcome, took, stuck, spent, Parser, and_then, ◌>>=◌, ◌<$>◌, pure, peek, take_symbol, expect, either, fit_for}

@@ -19,8 +19,6 @@ mod postfix;
 mod signature;
 mod simple;
 mod statement;
-#[cfg(test)]
-mod tests;
 mod types;
 
 pub use answer::parse;

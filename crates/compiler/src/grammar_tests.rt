@@ -2,9 +2,9 @@
 
 ghost use Rattle.std.specs.Prelude.{◌≤◌, length};
 
-use crate::parse;
 use puya_base::{Blob, Memory, Place, SourceFault};
 use py_lexer::tokens;
+use py_parser::parse;
 use std::alloc::Global;
 use std::process::Abort;
 use std::test::Fail;
