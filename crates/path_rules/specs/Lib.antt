@@ -1,0 +1,6 @@
+pub mod Steps
+pub mod Walks
+pub mod Rules
+pub mod Order
+pub mod Summaries
+pub mod Describes
