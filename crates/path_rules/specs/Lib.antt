@@ -4,3 +4,5 @@ pub mod Rules
 pub mod Order
 pub mod Summaries
 pub mod Describes
+pub mod NextOf
+pub mod Told

@@ -1,5 +1,5 @@
 -- Summaries of steps, one variable at a time.
-use Rattle.std.specs.Prelude.{ℕ, suc, ◌≤◌, ◌<◌, ◌==◌, Bool, true, false, ◌||◌, not, if◌then◌else◌, nat_lt, List, [], ◌∷◌, map, Option, Some, None}
+use Rattle.std.specs.Prelude.{ℕ, suc, ◌≤◌, ◌==◌, Bool, true, false, ◌||◌, not, if◌then◌else◌, nat_lt, List, [], ◌∷◌, map, Option, Some, None}
 use Rattle.path_rules.specs.declared.summary.Exits.{Exits}
 use Rattle.path_rules.specs.declared.summary.Endings.{Endings}
 use Rattle.path_rules.specs.declared.summary.Effect.{Effect}
@@ -7,6 +7,7 @@ use Rattle.path_rules.specs.declared.summary.Touched.{Touched}
 use Rattle.path_rules.specs.declared.summary.Summary.{Summary}
 use Rattle.path_rules.specs.declared.summary.Frame.{Frame}
 use Rattle.path_rules.specs.declared.summary.Frame.TheVariants.{Arm, If, Loop}
+use Rattle.puya_base.specs.declared.source.Place.{Place}
 use Rattle.path_rules.specs.Order.{earlier_place}
 
 abbrev pub no_exits : Exits
@@ -113,3 +114,45 @@ effect_of m x = effect_in m.others x m.touched
 abbrev pub endings_from : Bool → Effect → Endings
 endings_from true e = e.assigned
 endings_from false e = e.unassigned
+
+-- ---- summaries
+
+abbrev pub only_goes : Exits
+only_goes = record { goes = true; leaves = false; breaks = false; continues = false }
+
+abbrev pub summary_behind : Summary → Summary → Summary
+summary_behind m n = record { others = others_behind m.others n.others; touched = merged m.others n.others m.touched n.touched }
+
+-- the second alone where there is no first
+abbrev pub both_or_one : Option Summary → Summary → Summary
+both_or_one None n = n
+both_or_one (Some m) n = summary_behind m n
+
+abbrev pub summary_in_frame : Frame → Summary → Summary
+summary_in_frame f m = record { others = others_in_frame f m.others; touched = map (touched_in_frame f) m.touched }
+
+-- of what names no variable
+abbrev pub plain : Exits → Summary
+plain e = record { others = e; touched = [] }
+
+-- of what names one variable and goes on
+abbrev pub naming : ℕ → Effect → Summary
+naming x effect = record { others = only_goes; touched = record { variable = x; effect = effect } ∷ [] }
+
+abbrev pub read_effect : Place → Effect
+read_effect p = record { unassigned = record { exits = only_goes; read = Some p }; assigned = no_endings }
+
+abbrev pub assign_effect : Effect
+assign_effect = record { unassigned = no_endings; assigned = no_endings }
+
+abbrev pub forget_effect : Effect
+forget_effect = record { unassigned = record { exits = only_goes; read = None }; assigned = record { exits = only_goes; read = None } }
+
+abbrev pub exits_at_end : Exits
+exits_at_end = record { goes = true; leaves = true; breaks = false; continues = false }
+
+abbrev pub only_breaks : Exits
+only_breaks = record { goes = false; leaves = false; breaks = true; continues = false }
+
+abbrev pub only_continues : Exits
+only_continues = record { goes = false; leaves = false; breaks = false; continues = true }
