@@ -6,6 +6,7 @@ mod contract;
 mod expression;
 mod laws;
 mod loads;
+mod node_amounts;
 mod primitive;
 mod statement;
 #[cfg(test)]
@@ -17,6 +18,10 @@ pub use amounts::{places, stack_need};
 pub use contract::{Contract, Func, Funcs};
 pub use expression::{Expr, ExprKind, Exprs, Index, Order};
 pub use laws::what_is_prescribed_lasts;
+pub use node_amounts::{
+    Amounts, HeadKind, expression_amounts, head_amounts, match_amounts, primitive_amounts,
+};
 pub use primitive::Primitive;
 pub use statement::{Arm, Arms, MatchArm, MatchArms, Stmt, StmtKind, Stmts, Target, Targets};
 pub use ty::{Ty, Tys};
+pub use waits::{scalars, total_scalars};
