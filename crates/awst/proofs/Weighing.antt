@@ -1,6 +1,8 @@
 -- Sums of weights, with counts that stand still.
-use Rattle.std.proofs.Common.{◌≡◌, ℕ, ◌+◌, ◌∙◌, ap, arith}
+use Rattle.std.proofs.Common.{◌≡◌, ℕ, ◌+◌, ◌<◌, ◌≤◌, ◌∙◌, List, [], ◌∷◌, length, get_or, drop, ap, subst, arith}
+use Rattle.std.proofs.lemmas.List.{drop_all}
 use Rattle.awst.specs.Capped.{capped}
+use Rattle.awst.proofs.Marking.{next_item}
 
 -- what was counted and what is left make up the whole
 pub record Sums (counted left whole : ℕ) : Type 0 where
@@ -13,9 +15,21 @@ sums_begin whole = record { sum = omega arith; small = omega arith }
 pub sums_more : (counted one left whole total n : ℕ) → Sums counted (one + left) whole → n ≡ capped one → total ≡ capped (counted + n) → Sums total left whole
 sums_more counted one left whole total n s e t = record { sum = omega (arith, s.sum, s.small, e, t); small = omega (arith, t) }
 
-pub sums_end : (total whole : ℕ) → Sums total 0 whole → total ≡ capped whole
-sums_end total whole s = omega (arith, s.sum, s.small)
+pub sums_end : (total left whole : ℕ) → left ≡ 0 → Sums total left whole → total ≡ capped whole
+sums_end total left whole e s = omega (arith, e, s.sum, s.small)
 
 -- a sum of two
 pub sum_two : (a b ca cb r : ℕ) → ca ≡ capped a → cb ≡ capped b → r ≡ capped (ca + cb) → r ≡ capped (a + b)
 sum_two a b ca cb r ea eb er = omega (arith, ea, eb, er)
+
+-- sums over the things of a list, one thing after the other
+pub sums_next : {X : Type 0} (f : List X → ℕ) (one : X → ℕ) (xs : List X) (i : ℕ) (x : X) (counted total n whole : ℕ) →
+    ((ys : List X) → f (x ∷ ys) ≡ one x + f ys) → i < length xs → x ≡ get_or xs i x → n ≡ capped (one x) → total ≡ capped (counted + n) →
+    Sums counted (f (drop i xs)) whole → Sums total (f (drop (i + 1) xs)) whole
+sums_next f one xs i x counted total n whole by_step h e n_is total_is s =
+    let left : f (drop i xs) ≡ one x + f (drop (i + 1) xs) = ap f (next_item xs i x h e) ∙ by_step (drop (i + 1) xs) in
+    sums_more counted (one x) (f (drop (i + 1) xs)) whole total n (subst (λ l. Sums counted l whole) left s) n_is total_is
+
+-- nothing is left
+pub sums_last : {X : Type 0} (f : List X → ℕ) (xs : List X) (i total whole : ℕ) → f [] ≡ 0 → length xs ≤ i → Sums total (f (drop i xs)) whole → total ≡ capped whole
+sums_last f xs i total whole none h s = sums_end total (f (drop i xs)) whole (ap f (drop_all i xs h) ∙ none) s

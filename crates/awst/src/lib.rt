@@ -2,6 +2,7 @@
 #![tactic(auto)]
 
 mod amounts;
+mod assigned_rows;
 mod contract;
 mod expression;
 mod laws;
@@ -15,6 +16,7 @@ mod ty;
 mod waits;
 
 pub use amounts::{places, stack_need};
+pub use assigned_rows::{assigned, assigned_by_arms, sizes};
 pub use contract::{Contract, Func, Funcs};
 pub use expression::{Expr, ExprKind, Exprs, Index, Order};
 pub use laws::what_is_prescribed_lasts;
