@@ -10,12 +10,12 @@ use Rattle.awst.specs.declared.expression.Expr.{Expr}
 use Rattle.awst.specs.declared.expression.ExprKind.TheFolds.{fold_out-Expr}
 use Rattle.awst.specs.declared.statement.Target.{Target}
 use Rattle.awst.specs.declared.statement.Stmt.{Stmt}
-use Rattle.awst.specs.declared.statement.Arm.{Arm}
-use Rattle.awst.specs.declared.statement.MatchArm.{MatchArm}
+use Rattle.awst.specs.declared.statement.Arm.{Arm, out-Arm}
+use Rattle.awst.specs.declared.statement.MatchArm.{MatchArm, out-MatchArm}
 use Rattle.awst.specs.declared.statement.StmtKind.{StmtKind}
 use Rattle.awst.specs.declared.statement.StmtKind.TheVariants as kind
-use Rattle.awst.specs.declared.statement.StmtKind.TheOpen.{StmtKind-F, roll-StmtKind}
-use Rattle.awst.specs.declared.statement.StmtKind.TheFolds.{fold-roll-StmtKind}
+use Rattle.awst.specs.declared.statement.StmtKind.TheOpen.{StmtKind-F}
+use Rattle.awst.specs.declared.statement.StmtKind.TheFolds.{fold-roll-StmtKind, fold_out-Arm, fold_out-MatchArm}
 use Rattle.awst.specs.Types.{ValueType, tuple, types_of, type_of, type_layer}
 use Rattle.awst.specs.Tree.{Ex}
 use Rattle.awst.specs.Plain.{Bare, Which, typed, kind_layer, index_layer, expr_layer, tree_of, bare_of, Statement, PlainArm, PlainPick, stmt_layer, arm_layer, pick_layer, placed_layer, statement_of, kind_of, arm_of, pick_of}
@@ -64,3 +64,11 @@ kind-Fail = ap kind_of (sym kind.rolls-Fail) ∙ fold-roll-StmtKind (Place → S
 
 pub kind-Match : (e : Expr) (picks : List MatchArm) (rest : List Stmt) → kind_of (kind.Match e picks rest) ≡ stmt_layer (StmtKind-F.Match e (map pick_of picks) (map statement_of rest))
 kind-Match e picks rest = ap kind_of (sym (kind.rolls-Match e picks rest)) ∙ fold-roll-StmtKind (Place → Statement) PlainArm PlainPick Statement stmt_layer arm_layer pick_layer placed_layer (StmtKind-F.Match e picks rest)
+
+-- an arm is its condition with its body
+pub arm-Arm : (arm : Arm) → arm_of arm ≡ record { condition = tree_of (out-Arm arm).condition; body = map statement_of (out-Arm arm).body }
+arm-Arm arm = fold_out-Arm (Place → Statement) PlainArm PlainPick Statement stmt_layer arm_layer pick_layer placed_layer arm
+
+-- an arm of a choice is its literal with its body
+pub pick-MatchArm : (pick : MatchArm) → pick_of pick ≡ record { literal = (out-MatchArm pick).literal; body = map statement_of (out-MatchArm pick).body }
+pick-MatchArm pick = fold_out-MatchArm (Place → Statement) PlainArm PlainPick Statement stmt_layer arm_layer pick_layer placed_layer pick

@@ -14,6 +14,7 @@ mod statement;
 mod tests;
 mod ty;
 mod waits;
+mod weights;
 
 pub use amounts::{places, stack_need};
 pub use assigned_rows::{assigned, assigned_by_arms, sizes};
