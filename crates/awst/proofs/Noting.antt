@@ -2,7 +2,8 @@
 use Rattle.std.proofs.Common.{◌≡◌, ℕ, zero, suc, ◌+◌, ◌<◌, ◌≤◌, ◌⊎◌, inl, inr, ◌∙◌, Bool, true, false, ◌||◌, eqb, List, [], ◌∷◌, ◌++◌, length, get_or, set, map, replicate, Option, Some, None, refl, sym, ap, subst, arith, length-append}
 use Rattle.std.proofs.lemmas.List.{get_or-set_other, get_or-set_same}
 use Rattle.std.proofs.lemmas.Bool.{or_cases, or_left, or_right, eq-eqb, eqb-true, cases_eq, false≢true}
-use Rattle.std.specs.Prelude.{slice_get}
+use Rattle.std.specs.Prelude.{Result, Ok, Err, OnOk}
+use Rattle.puya_base.specs.declared.memory.Memory.{Memory}
 use Rattle.awst.specs.declared.contract.Func.{Func}
 use Rattle.awst.specs.Functions.{function_of}
 use Rattle.awst.specs.Meaning.{Function}
@@ -206,21 +207,31 @@ marked_stays f marks (inr m) = marked_again f marks m
 pub waits_next : (f : ℕ → Bool) (a b c : List Bool) (u v w : List ℕ) → Waits a b u v → c ≡ marked f b → Waits b c v w → Waits a c u w
 waits_next f a b c u v w p e q = waits_both a b c u v w p q (below_marked f b c e)
 
-calls_of_visited : (funcs : List Func) (f : ℕ) (func : Func) → slice_get funcs f ≡ Some func → (g : ℕ) → sts_calls (function_of func).body g ≡ calls_at (map function_of funcs) f g
-calls_of_visited [] f func e g = absurd (cc e)
-calls_of_visited (first ∷ funcs) zero func e g = let same : func ≡ first = cc e in ap (λ x. sts_calls (function_of x).body g) same
-calls_of_visited (first ∷ funcs) (suc f) func e g = calls_of_visited funcs f func e g
-
--- the calls of a function are noted
-pub visited : (funcs : List Func) (f : ℕ) (func : Func) (calls : List ℕ) (marks more : List Bool) → slice_get funcs f ≡ Some func → calls ≡ sts_called (function_of func).body → more ≡ marked (is_in calls) marks →
-    more ≡ marked (calls_at (map function_of funcs) f) marks
-visited funcs f func calls marks more at_f e m =
-    m ∙ ap (λ l. marked (is_in l) marks) e
-    ∙ marked_same (is_in (sts_called (function_of func).body)) (calls_at (map function_of funcs) f) marks (λ g. sts_same (function_of func).body g ∙ calls_of_visited funcs f func at_f g)
+calls_of_visited : (funcs : List Func) (f : ℕ) (func : Func) → f < length funcs → func ≡ get_or funcs f func → (g : ℕ) → sts_calls (function_of func).body g ≡ calls_at (map function_of funcs) f g
+calls_of_visited [] f func h e g = absurd (omega arith)
+calls_of_visited (first ∷ funcs) zero func h e g = ap (λ x. sts_calls (function_of x).body g) e
+calls_of_visited (first ∷ funcs) (suc f) func h e g = calls_of_visited funcs f func (omega arith) e g
 
 length-functions : (funcs : List Func) → length (map function_of funcs) ≡ length funcs
 length-functions [] = refl
 length-functions (f ∷ funcs) = ap suc (length-functions funcs)
+
+-- the calls of a function are noted
+pub visited : (funcs : List Func) (f : ℕ) (func : Func) (calls : List ℕ) (marks : List Bool) → f < length funcs → func ≡ get_or funcs f func → calls ≡ sts_called (function_of func).body →
+    marked (is_in calls) marks ≡ marked (calls_at (map function_of funcs) f) marks
+visited funcs f func calls marks h at_f e =
+    ap (λ l. marked (is_in l) marks) e
+    ∙ marked_same (is_in (sts_called (function_of func).body)) (calls_at (map function_of funcs) f) marks (λ g. sts_same (function_of func).body g ∙ calls_of_visited funcs f func h at_f g)
+
+pub on_ok_same : (r : Result (Unit {0}) Memory) (new x y : List Bool) → x ≡ y → OnOk r (new ≡ x) → OnOk r (new ≡ y)
+on_ok_same (Ok d) new x y e h = h ∙ e
+on_ok_same (Err m) new x y e h = tt
+
+pub not_visited : (funcs : List Func) (f : ℕ) (marks : List Bool) → length funcs ≤ f → marks ≡ marked (calls_at (map function_of funcs) f) marks
+not_visited funcs f marks h = nothing_called (map function_of funcs) f marks (omega (arith, h, length-functions funcs))
+
+pub waits_noted : (f : ℕ) (marks more : List Bool) (waiting longer : List ℕ) → f < length marks → mark_at marks f ≡ false → more ≡ set marks f true → longer ≡ waiting ++ f ∷ [] → Waits marks more waiting longer
+waits_noted f marks more waiting longer h m e d = subst (λ l. Waits marks more waiting l) (sym d) (subst (λ l. Waits marks l waiting (waiting ++ f ∷ [])) (sym e) (waits_one f marks waiting h m))
 
 -- the roots that are marked
 pub first_marks : (roots : List (Option ℕ)) (funcs : List Func) (none marks : List Bool) → none ≡ replicate (length funcs) false → marks ≡ marked (is_root roots) none → marks ≡ roots_from 0 roots (map function_of funcs)
