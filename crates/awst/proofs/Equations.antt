@@ -12,7 +12,6 @@ use Rattle.awst.specs.declared.statement.Target.{Target}
 use Rattle.awst.specs.declared.statement.Stmt.{Stmt}
 use Rattle.awst.specs.declared.statement.Arm.{Arm, out-Arm}
 use Rattle.awst.specs.declared.statement.MatchArm.{MatchArm, out-MatchArm}
-use Rattle.awst.specs.declared.statement.StmtKind.{StmtKind}
 use Rattle.awst.specs.declared.statement.StmtKind.TheVariants as kind
 use Rattle.awst.specs.declared.statement.StmtKind.TheOpen.{StmtKind-F}
 use Rattle.awst.specs.declared.statement.StmtKind.TheFolds.{fold-roll-StmtKind, fold_out-Arm, fold_out-MatchArm}

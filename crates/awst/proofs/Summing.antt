@@ -1,7 +1,7 @@
 -- Sums of what is marked, with sizes that stand still.
-use Rattle.std.proofs.Common.{◌≡◌, ℕ, ◌+◌, ◌∙◌, Bool, true, false, cond, List, [], ◌∷◌, length, map, replicate, refl, ap, arith}
+use Rattle.std.proofs.Common.{◌≡◌, ℕ, ◌+◌, ◌∙◌, Bool, true, false, cond, List, [], ◌∷◌, length, replicate, refl, ap, arith}
 use Rattle.awst.specs.Capped.{capped}
-use Rattle.awst.specs.Types.{ValueType, scalar_count}
+use Rattle.awst.specs.Types.{scalar_count}
 use Rattle.awst.specs.Plain.{Scope, scalars_from, assigned_scalars}
 use Rattle.awst.specs.Meaning.{Function}
 use Rattle.awst.specs.Weight.{function_weight, marked_weight}

@@ -1,4 +1,4 @@
-use Rattle.std.proofs.Common.{◌≡◌, ◌<◌, ◌≤◌, ◌⊎◌, Bool, true, false, List, length, refl, ap, subst, ◌∙◌}
+use Rattle.std.proofs.Common.{◌≡◌, ◌<◌, ◌≤◌, ◌⊎◌, Bool, true, false, List, length, refl, subst, ◌∙◌}
 use Rattle.awst.specs.Reach.{mark_at}
 use Rattle.awst.proofs.Marking.{marked_one}
 use Rattle.awst.proofs.Noting.{marked_stays, waits_noted}

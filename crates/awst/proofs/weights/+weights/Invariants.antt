@@ -1,4 +1,4 @@
-use Rattle.std.proofs.Common.{◌≡◌, ℕ, ◌+◌, ◌≤◌, false, drop, length, map, replicate}
+use Rattle.std.proofs.Common.{◌≡◌, ℕ, ◌≤◌, false, drop, length, map, replicate}
 use Rattle.awst.specs.Arms.{arms_weight}
 use Rattle.awst.specs.Capped.{capped}
 use Rattle.awst.specs.Marks.{marked, sizes_of}

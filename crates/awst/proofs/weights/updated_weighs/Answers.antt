@@ -1,4 +1,4 @@
-use Rattle.std.proofs.Common.{◌≡◌, ◌∙◌, refl, sym, ap, arith}
+use Rattle.std.proofs.Common.{◌≡◌, ◌∙◌, refl, sym, ap}
 use Rattle.awst.specs.Capped.{capped}
 use Rattle.awst.specs.Places.{scalars_of}
 use Rattle.awst.specs.Plain.{tree_of}
