@@ -2,6 +2,12 @@ pub mod Capped
 pub mod Equations
 pub mod Waiting
 pub mod Counting
+pub mod Marking
+pub mod Calling
+pub mod Reaching
+pub mod Noting
+pub mod Summing
+pub mod Weighing
 pub mod Keeps
 pub mod WorkedRows
 pub mod SoundRows

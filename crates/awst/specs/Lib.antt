@@ -3,6 +3,7 @@ pub mod Types
 pub mod Values
 pub mod Forms
 pub mod Table
+pub mod Heads
 pub mod Tree
 pub mod Meaning
 pub mod Places
@@ -10,6 +11,10 @@ pub mod Plain
 pub mod Functions
 pub mod Prescribed
 pub mod Weight
+pub mod Marks
+pub mod Calls
+pub mod Arms
+pub mod Reach
 pub mod Paths
 pub mod Shapes
 pub mod Sound

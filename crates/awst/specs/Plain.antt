@@ -11,7 +11,10 @@ use Rattle.awst.specs.declared.statement.Target.{Target}
 use Rattle.awst.specs.declared.statement.Target.TheVariants as target
 use Rattle.awst.specs.declared.statement.Stmt.{Stmt}
 use Rattle.awst.specs.declared.statement.StmtKind.TheOpen.{StmtKind-F, Stmt-F, Arm-F, MatchArm-F}
-use Rattle.awst.specs.declared.statement.StmtKind.TheFolds.{fold-Stmt}
+use Rattle.awst.specs.declared.statement.StmtKind.{StmtKind}
+use Rattle.awst.specs.declared.statement.Arm.{Arm}
+use Rattle.awst.specs.declared.statement.MatchArm.{MatchArm}
+use Rattle.awst.specs.declared.statement.StmtKind.TheFolds.{fold-Stmt, fold-StmtKind, fold-Arm, fold-MatchArm}
 use Rattle.awst.specs.Types.{ValueType, bool, scalar_count, type_of}
 use Rattle.awst.specs.Values.{number, flag, string}
 use Rattle.awst.specs.Table.{Own, own_number, own_flag, own_data, own_local, own_tuple, own_item, own_element, own_prim, own_choice, own_call, own_assign, own_effect, own_assert, own_if, own_while, own_range, own_each, own_leave, own_return, own_fail, own_match}
@@ -225,3 +228,12 @@ pick_layer a = record { literal = a.literal; body = a.body }
 
 abbrev pub statement_of : Stmt → Statement
 statement_of = fold-Stmt (Place → Statement) PlainArm PlainPick Statement stmt_layer arm_layer pick_layer placed_layer
+
+abbrev pub kind_of : StmtKind → Place → Statement
+kind_of = fold-StmtKind (Place → Statement) PlainArm PlainPick Statement stmt_layer arm_layer pick_layer placed_layer
+
+abbrev pub arm_of : Arm → PlainArm
+arm_of = fold-Arm (Place → Statement) PlainArm PlainPick Statement stmt_layer arm_layer pick_layer placed_layer
+
+abbrev pub pick_of : MatchArm → PlainPick
+pick_of = fold-MatchArm (Place → Statement) PlainArm PlainPick Statement stmt_layer arm_layer pick_layer placed_layer

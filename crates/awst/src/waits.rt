@@ -13,7 +13,7 @@ use crate::ty::Ty;
 
 /// How many scalars a value of the type has: one, or those of a tuple's parts, or none of `Nothing`.
 #[cycle(scalars)]
-pub(crate) fn scalars(ty: &Ty) -> u64
+pub fn scalars(ty: &Ty) -> u64
     ensures { result ≡ capped (scalar_count (type_of ty.now)) }
 {
     match ty {
@@ -24,7 +24,7 @@ pub(crate) fn scalars(ty: &Ty) -> u64
 }
 
 #[cycle(scalars)]
-pub(crate) fn total_scalars(parts: &[Ty]) -> u64
+pub fn total_scalars(parts: &[Ty]) -> u64
     ensures { result ≡ capped (scalar_total (types_of (map type_of parts.now))) }
 {
     let mut total: u64 = 0;

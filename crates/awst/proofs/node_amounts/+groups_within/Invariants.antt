@@ -1,0 +1,4 @@
+use Rattle.awst.proofs.node_amounts.+groups_within.Given as goal
+
+abbrev pub decreases-groups_within : goal.decreases-groups_within
+decreases-groups_within l = l.more
