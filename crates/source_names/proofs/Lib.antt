@@ -1,0 +1,6 @@
+mod Finding
+mod Seeing
+mod Behind
+mod Members
+mod Left
+mod Joining

@@ -7,4 +7,6 @@ pub mod Annotations
 pub mod Headers
 pub mod Modules
 pub mod Classes
+pub mod Lookups
+pub mod Limits
 pub mod Equations
