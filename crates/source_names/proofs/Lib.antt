@@ -4,3 +4,7 @@ mod Behind
 mod Members
 mod Left
 mod Joining
+mod Writing
+mod Parens
+mod ClassLines
+mod Lines

@@ -1,5 +1,5 @@
 -- Names that were seen, as a set keeps them.
-use Rattle.std.proofs.Common.{◌≡◌, ℕ, List, [], ◌∷◌, ◌++◌, Bool, true, false, refl, sym, ap, ◌∙◌, append_assoc}
+use Rattle.std.proofs.Common.{◌≡◌, ℕ, ◌-◌, ◌≤◌, length, take, drop, get_or, List, [], ◌∷◌, ◌++◌, Bool, true, false, refl, sym, ap, ◌∙◌, append_assoc}
 use Rattle.std.specs.Prelude.{bytes_eq, if◌then◌else◌, map}
 use Rattle.std.specs.List.{list_any}
 use Rattle.std.proofs.lemmas.List.{map-append}
@@ -12,6 +12,7 @@ use Rattle.source_names.specs.Headers.{is_seen, twice}
 use Rattle.source_names.specs.Things.{names_variable}
 use Rattle.source_names.specs.Lookups.{with_name, again}
 use Rattle.source_names.proofs.Finding.{same_both_ways}
+use Rattle.source_names.proofs.Behind.{first_and_behind}
 
 module _ {X : Type 0} (f : X → List ℕ) (name : List ℕ) where
   seen_more : (x : X) (xs : List X) (v : Bool) → bytes_eq name (f x) ≡ v → list_any (λ k. bytes_eq name (f k)) xs ≡ is_seen name (map f xs)
@@ -96,3 +97,17 @@ with_old seen n h = rw h refl
 pub inserted_is : {X : Type 0} (f : X → List ℕ) (name : List ℕ) (ks : List X) (k : X) (after : List X) (vs : List (List ℕ)) → map f ks ≡ vs → f k ≡ name
     → after ≡ (if list_any (λ x. bytes_eq (f k) (f x)) ks then ks else ks ++ k ∷ []) → map f after ≡ with_name vs name
 inserted_is f name ks k after vs e same is = inserted f name ks k after same is ∙ ap (λ z. with_name z name) e
+
+-- a name among others, and then those behind it
+pub twice_behind : {A : Type 0} (names : List A → List Word) (xs : List A) (x : A) (w : Word) (told more all : List Refusal) (seen seen' : List (List ℕ))
+    → x ≡ get_or xs 0 x → 1 ≤ length xs → ((ys : List A) → w ∷ names ys ≡ names (x ∷ ys))
+    → more ≡ told ++ again seen w.name w.place → seen' ≡ with_name seen w.name
+    → told ++ twice seen (names xs) ≡ all → more ++ twice seen' (names (take (length xs - 1) (drop 1 xs))) ≡ all
+twice_behind names xs x w told more all seen seen' is low cons d e h =
+    let ys = take (length xs - 1) (drop 1 xs) in
+    ap (λ z. z ++ twice seen' (names ys)) d
+    ∙ ap (λ z. (told ++ again seen w.name w.place) ++ twice z (names ys)) e
+    ∙ told_again told seen w (names ys)
+    ∙ ap (λ z. told ++ twice seen z) (cons ys)
+    ∙ ap (λ zs. told ++ twice seen (names zs)) (sym (first_and_behind xs x is low))
+    ∙ h

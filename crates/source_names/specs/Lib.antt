@@ -9,4 +9,7 @@ pub mod Modules
 pub mod Classes
 pub mod Lookups
 pub mod Limits
+pub mod Parts
+pub mod Packages
+pub mod Bases
 pub mod Equations
