@@ -1,0 +1,5 @@
+pub mod Tables
+pub mod Packages
+pub mod Forms
+pub mod Operators
+pub mod Members

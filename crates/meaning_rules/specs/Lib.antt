@@ -1,0 +1,7 @@
+pub mod Meanings
+pub mod Calls
+pub mod Operations
+pub mod Betweens
+pub mod Indexes
+pub mod Reads
+pub mod Callees

@@ -1,0 +1,105 @@
+//! Types of the source: what they are, copies of them, and the types of typed trees for them.
+
+ghost use Rattle.std.specs.Prelude.{◌≡◌, map, None, Some, IfOk, MatchOption};
+ghost use Rattle.source_names.specs.Types as spec;
+
+use algopy_library::Scalar;
+use awst::{Ty, Tys};
+use puya_base::{List, Memory};
+use source_names::SourceType;
+use std::alloc::Global;
+
+/// The type's scalar, if it is one.
+#[tactic(auto, using(crate::proofs::Equalities::types))]
+pub(crate) fn scalar_of(ty: &SourceType) -> Option<Scalar>
+    ensures { result ≡ spec.scalar_of ty.now }
+{
+    match ty {
+        SourceType::Scalar(scalar) => Some(*scalar),
+        SourceType::Nothing => None,
+        SourceType::Tuple(_) => None,
+    }
+}
+
+/// Whether it is what a function without a result gives.
+#[tactic(auto, using(crate::proofs::Equalities::types))]
+pub(crate) fn is_nothing(ty: &SourceType) -> bool
+    ensures { result ≡ spec.is_nothing ty.now }
+{
+    match ty {
+        SourceType::Scalar(_) => false,
+        SourceType::Nothing => true,
+        SourceType::Tuple(_) => false,
+    }
+}
+
+/// The types of a tuple's parts.
+#[tactic(auto, using(crate::proofs::Equalities::types))]
+pub(crate) fn tuple_parts(ty: &SourceType) -> Option<&[SourceType]>
+    ensures { MatchOption result (spec.tuple_parts ty.now ≡ None) (λ ts. spec.tuple_parts ty.now ≡ Some ts.now) }
+{
+    match ty {
+        SourceType::Scalar(_) => None,
+        SourceType::Nothing => None,
+        SourceType::Tuple(parts) => Some(parts.as_slice()),
+    }
+}
+
+pub(crate) fn typed_scalar(scalar: Scalar) -> Ty
+    ensures { result ≡ spec.typed_scalar scalar }
+{
+    match scalar {
+        Scalar::UInt64 => Ty::UInt64,
+        Scalar::Bool => Ty::Bool,
+        Scalar::Bytes => Ty::Bytes,
+        Scalar::Text => Ty::Text,
+        Scalar::Account => Ty::Account,
+    }
+}
+
+/// The type of typed trees for a type.
+#[tactic(auto, using(crate::proofs::Equalities::types))]
+#[cycle(typed)]
+pub(crate) fn tree_type(alloc: Global, ty: &SourceType) -> Result<Ty, Memory>
+    ensures { IfOk result (λ t. t ≡ spec.typed ty.now) }
+{
+    match ty {
+        SourceType::Scalar(scalar) => Ok(typed_scalar(*scalar)),
+        SourceType::Nothing => Ok(Ty::Nothing),
+        SourceType::Tuple(parts) => Ok(Ty::Tuple(tree_types(alloc, parts.as_slice())?)),
+    }
+}
+
+#[cycle(typed)]
+fn tree_types(alloc: Global, tys: &[SourceType]) -> Result<Tys, Memory>
+    ensures { IfOk result (λ ts. ts ≡ map spec.typed tys.now) }
+{
+    let mut all = List::new(alloc);
+    for ty in tys {
+        all.push(tree_type(alloc, ty)?)?;
+    }
+    Ok(all)
+}
+
+/// The same type once more.
+#[cycle(copied)]
+pub fn copied(alloc: Global, ty: &SourceType) -> Result<SourceType, Memory>
+    ensures { IfOk result (λ t. t ≡ ty.now) }
+{
+    match ty {
+        SourceType::Scalar(scalar) => Ok(SourceType::Scalar(*scalar)),
+        SourceType::Nothing => Ok(SourceType::Nothing),
+        SourceType::Tuple(parts) => Ok(SourceType::Tuple(all_copied(alloc, parts.as_slice())?)),
+    }
+}
+
+#[cycle(copied)]
+fn all_copied(alloc: Global, tys: &[SourceType]) -> Result<List<SourceType>, Memory>
+    ensures { IfOk result (λ ts. ts ≡ tys.now) }
+{
+    let mut all = List::new(alloc);
+    for ty in tys {
+        all.push(copied(alloc, ty)?)?;
+    }
+    Ok(all)
+}

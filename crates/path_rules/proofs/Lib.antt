@@ -1,0 +1,13 @@
+pub mod Firsts
+pub mod WalkLaws
+pub mod EndingLaws
+pub mod MergeLaws
+pub mod Describing
+pub mod TogetherLaws
+pub mod Leaves
+pub mod Equations
+pub mod Compounds
+pub mod RefusalOrder
+pub mod ToldLaws
+pub mod FirstBroken
+pub mod NoteSteps

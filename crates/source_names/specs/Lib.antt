@@ -1,0 +1,10 @@
+pub mod Types
+pub mod Literals
+pub mod Faults
+pub mod Source
+pub mod Things
+pub mod Annotations
+pub mod Headers
+pub mod Modules
+pub mod Classes
+pub mod Equations
