@@ -2,10 +2,12 @@
 use Rattle.std.proofs.Common.{◌≡◌, ℕ, Bool, true, false, List, ◌++◌, [], ◌∷◌, refl, sym, ◌∙◌, ap, subst}
 use Rattle.std.specs.Prelude.{if◌then◌else◌, IfOk, Result, Ok, Err}
 use Rattle.puya_base.specs.declared.memory.Memory.{Memory}
+use Rattle.path_rules.specs.declared.summary.Exits.{Exits}
+use Rattle.path_rules.specs.declared.summary.Effect.{Effect}
 use Rattle.path_rules.specs.declared.summary.Summary.{Summary}
 use Rattle.path_rules.specs.declared.summary.Frame.TheVariants.{Arm, If, Loop}
 use Rattle.path_rules.specs.Steps.{Step, Steps, one, before, arm, choice, loop, an_end, an_arm, a_loop}
-use Rattle.path_rules.specs.Summaries.{plain, exits_at_end, only_goes, summary_behind, summary_in_frame}
+use Rattle.path_rules.specs.Summaries.{plain, naming, exits_at_end, only_goes, summary_behind, summary_in_frame}
 use Rattle.path_rules.specs.Describes.{Describes, Together, TogetherWith}
 use Rattle.path_rules.proofs.Describing.{describes_behind, describes_in_frame}
 use Rattle.path_rules.proofs.Leaves.{describes_end}
@@ -53,3 +55,9 @@ loop_gives r test end rest turn body ends e f g h =
     let turn_is : turn ≡ turn_summary test ends body = g ∙ ap (λ z. summary_behind test z) (f ∙ ap (λ z. summary_behind z body) e) in
     ok_map (λ m. m ≡ summary_in_frame Loop turn) (λ m. (t b : Steps) → Describes test t → Describes body b → Describes m (one (a_loop t ends b)))
     (λ m is t b j k. subst (λ z. Describes z (one (a_loop t ends b))) (sym (is ∙ ap (λ z. summary_in_frame Loop z) turn_is)) (describes_loop test ends body t b j k)) r h
+
+pub plain_gives : (P : Summary → Type 0) (m : Summary) (e f : Exits) → m ≡ plain e → e ≡ f → P (plain f) → P m
+plain_gives P m e f h k p = subst P (sym (h ∙ ap plain k)) p
+
+pub naming_gives : (r : Result Summary Memory) (x : ℕ) (e f : Effect) (fs : Steps) → e ≡ f → IfOk r (λ m. m ≡ naming x e) → Describes (naming x f) fs → IfOk r (λ m. Describes m fs)
+naming_gives r x e f fs h k d = ok_map (λ m. m ≡ naming x e) (λ m. Describes m fs) (λ m q. subst (λ z. Describes z fs) (sym (q ∙ ap (naming x) h)) d) r k

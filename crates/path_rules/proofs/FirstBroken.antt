@@ -6,12 +6,13 @@ use Rattle.puya_base.specs.declared.source.Place.{Place}
 use Rattle.puya_base.specs.declared.source.Refusal.{Refusal}
 use Rattle.puya_base.specs.declared.source.Rule.{Rule}
 use Rattle.puya_base.specs.declared.source.Rule.TheVariants.{P17, P18}
+use Rattle.path_rules.specs.declared.note.Note.{Note}
 use Rattle.path_rules.specs.declared.summary.Exits.{Exits}
 use Rattle.path_rules.specs.declared.summary.Summary.{Summary}
 use Rattle.path_rules.specs.declared.summary.Touched.{Touched}
-use Rattle.path_rules.specs.Steps.{Steps}
+use Rattle.path_rules.specs.Steps.{Steps, steps_of}
 use Rattle.path_rules.specs.Walks.{goes, out, at, Walks}
-use Rattle.path_rules.specs.Rules.{refused, TellAll, IsReadUnassigned, IsEndReached, Breaks, told, unassigned, no_return, IsNotAfter, number_of, ComesFirst, IsLeast, IsFirst}
+use Rattle.path_rules.specs.Rules.{refused, TellAll, IsReadUnassigned, IsEndReached, Breaks, told, unassigned, no_return, IsNotAfter, number_of, ComesFirst, IsLeast, IsFirst, IsBroken}
 use Rattle.path_rules.specs.Order.{is_before, precedes, earlier_place, earlier_refusal}
 use Rattle.path_rules.specs.Summaries.{untouched, Rises, effect_in, effect_of}
 use Rattle.path_rules.specs.Describes.{Describes}
@@ -114,3 +115,13 @@ first_broken m fs end h =
       (refused_first P18 (EndAt fs end) (where_it_holds m.others.goes end)
         (end_first fs end m.others.goes
           (λ e. let w = ((h.others 0 false).each goes e).1 in (0, w.0, w.1)) (λ k. (h.others k.0 false).all goes (tt, (k.1, k.2))))))
+
+-- what the calls of `broken` give
+pub broken_gives : (notes listed : List Note) (m : Summary) (end : Option Place) (touched : List Touched) (read missing : Option Place) (all unread first unended answer : Option Refusal)
+    → listed ≡ notes → Describes m (steps_of listed) → touched ≡ m.touched → read ≡ first_read None touched → missing ≡ where_it_holds m.others.goes end
+    → all ≡ told_by_all None false (steps_of listed) → unread ≡ refused_at P17 read → first ≡ earlier_refusal all unread → unended ≡ refused_at P18 missing
+    → answer ≡ earlier_refusal first unended → IsFirst (IsBroken notes end) answer
+broken_gives notes listed m end touched read missing all unread first unended answer same d t r e a p f q w =
+    let whole = earlier_refusal (earlier_refusal (told_by_all None false (steps_of listed)) (refused_at P17 (first_read None m.touched))) (refused_at P18 (where_it_holds m.others.goes end)) in
+    let is : answer ≡ whole = cc in
+    subst (λ l. IsFirst (IsBroken l end) answer) same (subst (λ z. IsFirst (IsBroken listed end) z) (sym is) (first_broken m (steps_of listed) end d))

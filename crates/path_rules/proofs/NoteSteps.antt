@@ -15,8 +15,8 @@ use Rattle.path_rules.specs.Told.{loop_word, told_by, told_by_all}
 use Rattle.path_rules.specs.Order.{earlier_refusal}
 use Rattle.path_rules.proofs.Compounds.{ok_map}
 use Rattle.path_rules.proofs.Equations.{step-Broken, step-Read, step-Assign, step-Forget, step-If, step-Loop, step-Break, step-Continue, step-Return, arm-is}
-use Rattle.path_rules.proofs.TogetherLaws.{one_more, all_there, before-before}
-use Rattle.path_rules.proofs.ToldLaws.{told_arm, told_loop, told_next_arm}
+use Rattle.path_rules.proofs.TogetherLaws.{one_more, all_there}
+use Rattle.path_rules.proofs.ToldLaws.{told_before, told_arm, told_loop}
 
 -- ---- summaries
 
@@ -47,17 +47,25 @@ continue_step r n p e h = gives_same r (continue p) (step_of n) (ap step_of e �
 pub return_step : (r : Result Summary Memory) (n : Note) → n ≡ note.Return → IfOk r (λ m. DescribesReturn m) → Gives r (one (step_of n))
 return_step r n e h = gives_same r return (step_of n) (ap step_of e ∙ step-Return) h
 
-pub if_step : (r : Result Summary Memory) (n : Note) (arms given_arms : List NoteArm) (rest given_rest : List Note) → n ≡ note.If arms rest → given_arms ≡ arms → given_rest ≡ rest
-    → Gives r (one (an_if (arms_of given_arms) (steps_of given_rest))) → Gives r (one (step_of n))
-if_step r n arms given_arms rest given_rest e f g h =
+pub if_step : (r : Result Summary Memory) (n : Note) (arms given_arms : List NoteArm) (rest given_rest : List Note) (parts : List Summary) (last : Summary) → n ≡ note.If arms rest → given_arms ≡ arms → given_rest ≡ rest
+    → Together parts (in_turn (arms_of given_arms)) → Describes last (steps_of given_rest)
+    → IfOk r (λ m. (fs gs : Steps) → TogetherWith parts gs fs → Describes last gs → Describes m (one (choice fs))) → Gives r (one (step_of n))
+if_step r n arms given_arms rest given_rest parts last e f g h k d =
+    let whole = before (in_turn (arms_of given_arms)) (steps_of given_rest) in
+    let with_rest : TogetherWith parts (steps_of given_rest) whole = record { so_far = in_turn (arms_of given_arms); together = h; all_of = refl } in
     gives_same r (an_if (arms_of given_arms) (steps_of given_rest)) (step_of n)
-    (ap step_of e ∙ step-If arms rest ∙ ap (λ z. an_if (arms_of z) (steps_of rest)) (sym f) ∙ ap (λ z. an_if (arms_of given_arms) (steps_of z)) (sym g)) h
+    (ap step_of e ∙ step-If arms rest ∙ ap (λ z. an_if (arms_of z) (steps_of rest)) (sym f) ∙ ap (λ z. an_if (arms_of given_arms) (steps_of z)) (sym g))
+    (ok_map (λ m. (fs gs : Steps) → TogetherWith parts gs fs → Describes last gs → Describes m (one (choice fs))) (λ m. Describes m (one (choice whole)))
+      (λ m q. q whole (steps_of given_rest) with_rest k) r d)
 
-pub loop_step : (r : Result Summary Memory) (n : Note) (test given_test : List Note) (ends : Bool) (body given_body : List Note) → n ≡ note.Loop test ends body → given_test ≡ test → given_body ≡ body
-    → Gives r (one (a_loop (steps_of given_test) ends (steps_of given_body))) → Gives r (one (step_of n))
-loop_step r n test given_test ends body given_body e f g h =
+pub loop_step : (r : Result Summary Memory) (n : Note) (test given_test : List Note) (ends : Bool) (body given_body : List Note) (first second : Summary) → n ≡ note.Loop test ends body → given_test ≡ test → given_body ≡ body
+    → Describes first (steps_of given_test) → Describes second (steps_of given_body)
+    → IfOk r (λ m. (t b : Steps) → Describes first t → Describes second b → Describes m (one (a_loop t ends b))) → Gives r (one (step_of n))
+loop_step r n test given_test ends body given_body first second e f g h k d =
     gives_same r (a_loop (steps_of given_test) ends (steps_of given_body)) (step_of n)
-    (ap step_of e ∙ step-Loop test ends body ∙ ap (λ z. a_loop (steps_of z) ends (steps_of body)) (sym f) ∙ ap (λ z. a_loop (steps_of given_test) ends (steps_of z)) (sym g)) h
+    (ap step_of e ∙ step-Loop test ends body ∙ ap (λ z. a_loop (steps_of z) ends (steps_of body)) (sym f) ∙ ap (λ z. a_loop (steps_of given_test) ends (steps_of z)) (sym g))
+    (ok_map (λ m. (t b : Steps) → Describes first t → Describes second b → Describes m (one (a_loop t ends b))) (λ m. Describes m (one (a_loop (steps_of given_test) ends (steps_of given_body))))
+      (λ m q. q (steps_of given_test) (steps_of given_body) h k) r d)
 
 pub arm_step : (r : Result Summary Memory) (a : NoteArm) (test body : Summary) (given_test given_body : List Note) → given_test ≡ a.test → given_body ≡ a.body → Describes test (steps_of given_test) → Describes body (steps_of given_body)
     → IfOk r (λ m. (t b : Steps) → Describes test t → Describes body b → Describes m (an_arm t a.always b)) → Gives r (arm_of a)
@@ -65,11 +73,6 @@ arm_step r a test body given_test given_body e f h k g =
     ok_map (λ m. (t b : Steps) → Describes test t → Describes body b → Describes m (an_arm t a.always b)) (λ m. Describes m (arm_of a))
     (λ m d. subst (λ z. Describes m z) (sym (arm-is a))
       (d (steps_of a.test) (steps_of a.body) (subst (λ z. Describes test (steps_of z)) e h) (subst (λ z. Describes body (steps_of z)) f k))) r g
-
-pub loop_parts : (r : Result Summary Memory) (test body : Summary) (t b : Steps) (ends : Bool) → Describes test t → Describes body b
-    → IfOk r (λ m. (t b : Steps) → Describes test t → Describes body b → Describes m (one (a_loop t ends b))) → Gives r (one (a_loop t ends b))
-loop_parts r test body t b ends h k g =
-    ok_map (λ m. (t b : Steps) → Describes test t → Describes body b → Describes m (one (a_loop t ends b))) (λ m. Describes m (one (a_loop t ends b))) (λ m d. d t b h k) r g
 
 -- ---- lists
 
@@ -91,20 +94,16 @@ all_notes r parts notes i h w g =
     ok_map (λ m. (fs : Steps) → Together parts fs → Describes m fs) (λ m. Describes m (steps_of notes))
     (λ m d. d (steps_of notes) (all_there parts (steps_of notes) (subst (λ l. TogetherWith parts (steps_of l) (steps_of notes)) (drop_of_length-le notes h) w))) r g
 
-pub next_arm : (parts into : List Summary) (m : Summary) (arms : List NoteArm) (i : ℕ) (a : NoteArm) (rest whole : Steps) → i < length arms → a ≡ get_or arms i a → into ≡ parts ++ m ∷ [] → Describes m (arm_of a)
-    → TogetherWith parts (before (in_turn (arms_of (drop i arms))) rest) whole → TogetherWith into (before (in_turn (arms_of (drop (i + 1) arms))) rest) whole
-next_arm parts into m arms i a rest whole h e f k w =
+pub next_arm : (parts into : List Summary) (m : Summary) (arms : List NoteArm) (i : ℕ) (a : NoteArm) (whole : Steps) → i < length arms → a ≡ get_or arms i a → into ≡ parts ++ m ∷ [] → Describes m (arm_of a)
+    → TogetherWith parts (in_turn (arms_of (drop i arms))) whole → TogetherWith into (in_turn (arms_of (drop (i + 1) arms))) whole
+next_arm parts into m arms i a whole h e f k w =
     let tail = in_turn (arms_of (drop (i + 1) arms)) in
-    subst (λ l. TogetherWith l (before tail rest) whole) (sym f)
-    (one_more parts m (arm_of a) (before tail rest) whole
-      (subst (λ g. TogetherWith parts g whole) (ap (λ l. before (in_turn (arms_of l)) rest) (cut arms i a h e) ∙ before-before (arm_of a) tail rest) w) k)
+    subst (λ l. TogetherWith l tail whole) (sym f)
+    (one_more parts m (arm_of a) tail whole (subst (λ l. TogetherWith parts (in_turn (arms_of l)) whole) (cut arms i a h e) w) k)
 
-pub all_arms : (r : Result Summary Memory) (parts : List Summary) (last : Summary) (arms : List NoteArm) (i : ℕ) (rest : Steps) → length arms ≤ i → Describes last rest
-    → TogetherWith parts (before (in_turn (arms_of (drop i arms))) rest) (before (in_turn (arms_of arms)) rest)
-    → IfOk r (λ m. (fs gs : Steps) → TogetherWith parts gs fs → Describes last gs → Describes m (one (choice fs))) → Gives r (one (an_if (arms_of arms) rest))
-all_arms r parts last arms i rest h k w g =
-    ok_map (λ m. (fs gs : Steps) → TogetherWith parts gs fs → Describes last gs → Describes m (one (choice fs))) (λ m. Describes m (one (an_if (arms_of arms) rest)))
-    (λ m d. d (before (in_turn (arms_of arms)) rest) rest (subst (λ l. TogetherWith parts (before (in_turn (arms_of l)) rest) (before (in_turn (arms_of arms)) rest)) (drop_of_length-le arms h) w) k) r g
+pub all_arms : (parts : List Summary) (arms : List NoteArm) (i : ℕ) → length arms ≤ i
+    → TogetherWith parts (in_turn (arms_of (drop i arms))) (in_turn (arms_of arms)) → Together parts (in_turn (arms_of arms))
+all_arms parts arms i h w = all_there parts (in_turn (arms_of arms)) (subst (λ l. TogetherWith parts (in_turn (arms_of l)) (in_turn (arms_of arms))) (drop_of_length-le arms h) w)
 
 -- ---- what is told
 
@@ -130,14 +129,17 @@ module _ (first : Option Refusal) (inside : Bool) where
   pub told_continue : (n : Note) (p : Place) (x : Option Refusal) → n ≡ note.Continue p → x ≡ loop_word first inside p → x ≡ told_by first inside (step_of n)
   told_continue n p x e h = h ∙ ap (told_by first inside) (sym (ap step_of e ∙ step-Continue p))
 
-  pub told_if : (n : Note) (arms given_arms : List NoteArm) (rest given_rest : List Note) (x : Option Refusal) → n ≡ note.If arms rest → given_arms ≡ arms → given_rest ≡ rest → x ≡ told_by first inside (an_if (arms_of given_arms) (steps_of given_rest)) → x ≡ told_by first inside (step_of n)
-  told_if n arms given_arms rest given_rest x e f g h =
-      h ∙ ap (λ z. told_by first inside (an_if (arms_of z) (steps_of given_rest))) f ∙ ap (λ z. told_by first inside (an_if (arms_of arms) (steps_of z))) g
+  pub told_if : (n : Note) (arms given_arms : List NoteArm) (rest given_rest : List Note) (x y : Option Refusal) → n ≡ note.If arms rest → given_arms ≡ arms → given_rest ≡ rest
+      → y ≡ told_by_all first inside (in_turn (arms_of given_arms)) → x ≡ told_by_all y inside (steps_of given_rest) → x ≡ told_by first inside (step_of n)
+  told_if n arms given_arms rest given_rest x y e f g h k =
+      k ∙ ap (λ z. told_by_all z inside (steps_of given_rest)) h ∙ sym (told_before first inside (in_turn (arms_of given_arms)) (steps_of given_rest))
+      ∙ ap (λ z. told_by first inside (an_if (arms_of z) (steps_of given_rest))) f ∙ ap (λ z. told_by first inside (an_if (arms_of arms) (steps_of z))) g
       ∙ ap (told_by first inside) (sym (ap step_of e ∙ step-If arms rest))
 
-  pub told_turns : (n : Note) (test given_test : List Note) (ends : Bool) (body given_body : List Note) (x : Option Refusal) → n ≡ note.Loop test ends body → given_test ≡ test → given_body ≡ body → x ≡ told_by_all (told_by_all first true (steps_of given_test)) true (steps_of given_body) → x ≡ told_by first inside (step_of n)
-  told_turns n test given_test ends body given_body x e f g h =
-      h ∙ ap (λ z. told_by_all (told_by_all first true (steps_of z)) true (steps_of given_body)) f ∙ ap (λ z. told_by_all (told_by_all first true (steps_of test)) true (steps_of z)) g
+  pub told_turns : (n : Note) (test given_test : List Note) (ends : Bool) (body given_body : List Note) (x y : Option Refusal) → n ≡ note.Loop test ends body → given_test ≡ test → given_body ≡ body
+      → y ≡ told_by_all first true (steps_of given_test) → x ≡ told_by_all y true (steps_of given_body) → x ≡ told_by first inside (step_of n)
+  told_turns n test given_test ends body given_body x y e f g h k =
+      k ∙ ap (λ z. told_by_all z true (steps_of given_body)) h ∙ ap (λ z. told_by_all (told_by_all first true (steps_of z)) true (steps_of given_body)) f ∙ ap (λ z. told_by_all (told_by_all first true (steps_of test)) true (steps_of z)) g
       ∙ sym (told_loop first inside (steps_of test) ends (steps_of body)) ∙ ap (told_by first inside) (sym (ap step_of e ∙ step-Loop test ends body))
 
   pub told_whole_arm : (a : NoteArm) (given_test given_body : List Note) (x y : Option Refusal) → given_test ≡ a.test → given_body ≡ a.body → y ≡ told_by_all first inside (steps_of given_test) → x ≡ told_by_all y inside (steps_of given_body) → x ≡ told_by_all first inside (arm_of a)
@@ -149,13 +151,14 @@ module _ (first : Option Refusal) (inside : Bool) where
   pub told_next_note : (notes : List Note) (i : ℕ) (n : Note) (x whole : Option Refusal) → i < length notes → n ≡ get_or notes i n → x ≡ told_by first inside (step_of n) → told_by_all first inside (steps_of (drop i notes)) ≡ whole → told_by_all x inside (steps_of (drop (i + 1) notes)) ≡ whole
   told_next_note notes i n x whole h e f g = ap (λ z. told_by_all z inside (steps_of (drop (i + 1) notes))) f ∙ sym (ap (λ l. told_by_all first inside (steps_of l)) (cut notes i n h e)) ∙ g
 
-  pub told_one_arm : (arms : List NoteArm) (i : ℕ) (a : NoteArm) (rest : Steps) (x whole : Option Refusal) → i < length arms → a ≡ get_or arms i a → x ≡ told_by_all first inside (arm_of a) → told_by_all first inside (before (in_turn (arms_of (drop i arms))) rest) ≡ whole → told_by_all x inside (before (in_turn (arms_of (drop (i + 1) arms))) rest) ≡ whole
-  told_one_arm arms i a rest x whole h e f g =
-      ap (λ z. told_by_all z inside (before (in_turn (arms_of (drop (i + 1) arms))) rest)) f ∙ sym (told_next_arm first inside (arm_of a) (arms_of (drop (i + 1) arms)) rest)
-      ∙ sym (ap (λ l. told_by_all first inside (before (in_turn (arms_of l)) rest)) (cut arms i a h e)) ∙ g
+  pub told_one_arm : (arms : List NoteArm) (i : ℕ) (a : NoteArm) (x whole : Option Refusal) → i < length arms → a ≡ get_or arms i a → x ≡ told_by_all first inside (arm_of a)
+      → told_by_all first inside (in_turn (arms_of (drop i arms))) ≡ whole → told_by_all x inside (in_turn (arms_of (drop (i + 1) arms))) ≡ whole
+  told_one_arm arms i a x whole h e f g =
+      ap (λ z. told_by_all z inside (in_turn (arms_of (drop (i + 1) arms)))) f ∙ sym (told_before first inside (arm_of a) (in_turn (arms_of (drop (i + 1) arms))))
+      ∙ sym (ap (λ l. told_by_all first inside (in_turn (arms_of l))) (cut arms i a h e)) ∙ g
 
 pub told_all_notes : (first : Option Refusal) (inside : Bool) (notes : List Note) (i : ℕ) (whole : Option Refusal) → length notes ≤ i → told_by_all first inside (steps_of (drop i notes)) ≡ whole → first ≡ whole
 told_all_notes first inside notes i whole h g = sym (ap (λ l. told_by_all first inside (steps_of l)) (drop_of_length-le notes h)) ∙ g
 
-pub told_all_arms : (first : Option Refusal) (inside : Bool) (arms : List NoteArm) (i : ℕ) (rest : Steps) (x whole : Option Refusal) → length arms ≤ i → x ≡ told_by_all first inside rest → told_by_all first inside (before (in_turn (arms_of (drop i arms))) rest) ≡ whole → x ≡ whole
-told_all_arms first inside arms i rest x whole h e g = e ∙ sym (ap (λ l. told_by_all first inside (before (in_turn (arms_of l)) rest)) (drop_of_length-le arms h)) ∙ g
+pub told_all_arms : (first : Option Refusal) (inside : Bool) (arms : List NoteArm) (i : ℕ) (whole : Option Refusal) → length arms ≤ i → told_by_all first inside (in_turn (arms_of (drop i arms))) ≡ whole → first ≡ whole
+told_all_arms first inside arms i whole h g = sym (ap (λ l. told_by_all first inside (in_turn (arms_of l))) (drop_of_length-le arms h)) ∙ g

@@ -27,11 +27,6 @@ told_loop first inside test ends body =
     told_before first true test (before (an_end ends) body) ∙ told_before (told_by_all first true test) true (an_end ends) body
     ∙ ap (λ q. told_by_all q true body) (told_end (told_by_all first true test) true ends)
 
-pub told_next_arm : (first : Option Refusal) (inside : Bool) (fs : Steps) (arms : List Steps) (rest : Steps) → told_by_all first inside (before (in_turn (fs ∷ arms)) rest) ≡ told_by_all (told_by_all first inside fs) inside (before (in_turn arms) rest)
-told_next_arm first inside fs arms rest =
-    told_before first inside (before fs (in_turn arms)) rest ∙ ap (λ q. told_by_all q inside rest) (told_before first inside fs (in_turn arms))
-    ∙ sym (told_before (told_by_all first inside fs) inside (in_turn arms) rest)
-
 -- ---- the first
 
 nothing_told : (P : Refusal → Type 0) (first : Option Refusal) → IsFirst P first → IsFirst (λ r. P r ⊎ ⊥) first

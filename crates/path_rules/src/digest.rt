@@ -1,8 +1,8 @@
 //! The summary of notes. Each list of notes is looked at once.
 
 ghost use Rattle.std.specs.Prelude.{◌≡◌, [], ◌∷◌, ◌++◌, IfOk, OnOk, if◌then◌else◌};
-ghost use Rattle.path_rules.specs.Describes.{Describes, TogetherWith, DescribesFault, DescribesBreak, DescribesContinue, DescribesReturn};
-ghost use Rattle.path_rules.specs.Steps.{Steps, read, assign, forget, one, an_arm, an_if, a_loop, choice, step_of, steps_of, arm_of, arms_of};
+ghost use Rattle.path_rules.specs.Describes.{Describes, Together, TogetherWith, DescribesFault, DescribesBreak, DescribesContinue, DescribesReturn};
+ghost use Rattle.path_rules.specs.Steps.{Steps, read, assign, forget, one, an_arm, a_loop, choice, in_turn, step_of, steps_of, arm_of, arms_of};
 ghost use Rattle.path_rules.specs.Summaries as spec;
 
 use crate::joining::{joined, only_goes, plain};
@@ -182,12 +182,16 @@ fn digest_note(alloc: Global, note: &Note) -> Result<Summary, Memory>
         Note::If(arms, rest) => {
             let arms = arms.as_slice();
             let rest = rest.as_slice();
-            digest_if(alloc, arms, rest)
+            let parts = digest_arms(alloc, arms)?;
+            let last = digest(alloc, rest)?;
+            if_summary(alloc, parts, last)
         }
         Note::Loop(test, ends, body) => {
             let test = test.as_slice();
             let body = body.as_slice();
-            digest_loop(alloc, test, *ends, body)
+            let before = digest(alloc, test)?;
+            let inside = digest(alloc, body)?;
+            loop_summary(alloc, before, *ends, inside)
         }
         Note::Break(_) => break_summary(alloc),
         Note::Continue(_) => continue_summary(alloc),
@@ -207,25 +211,15 @@ fn digest_arm(alloc: Global, arm: &NoteArm) -> Result<Summary, Memory>
 }
 
 #[cycle(digest)]
-fn digest_if(alloc: Global, arms: &[NoteArm], rest: &[Note]) -> Result<Summary, Memory>
-    ensures { IfOk result (λ m. Describes m (one (an_if (arms_of arms.now) (steps_of rest.now)))) }
+fn digest_arms(alloc: Global, arms: &[NoteArm]) -> Result<Vec<Summary>, Memory>
+    ensures { IfOk result (λ parts. Together parts.items (in_turn (arms_of arms.now))) }
 {
     let mut parts = Vec::new(alloc);
     for arm in arms {
         let one = digest_arm(alloc, arm)?;
         put(&mut parts, one)?;
     }
-    let last = digest(alloc, rest)?;
-    if_summary(alloc, parts, last)
-}
-
-#[cycle(digest)]
-fn digest_loop(alloc: Global, test: &[Note], ends: bool, body: &[Note]) -> Result<Summary, Memory>
-    ensures { IfOk result (λ m. Describes m (one (a_loop (steps_of test.now) ends (steps_of body.now)))) }
-{
-    let test = digest(alloc, test)?;
-    let body = digest(alloc, body)?;
-    loop_summary(alloc, test, ends, body)
+    Ok(parts)
 }
 
 /// The summary of notes.

@@ -1,7 +1,7 @@
 //! What is broken wherever it stands: what was noted so, and loop words outside loops.
 
 ghost use Rattle.std.specs.Prelude.{◌≡◌, true};
-ghost use Rattle.path_rules.specs.Steps.{an_if, step_of, steps_of, arm_of, arms_of};
+ghost use Rattle.path_rules.specs.Steps.{in_turn, step_of, steps_of, arm_of, arms_of};
 ghost use Rattle.path_rules.specs.Told as spec;
 
 use crate::note::{Note, NoteArm};
@@ -30,12 +30,14 @@ fn told_by_note(first: Option<Refusal>, inside: bool, note: &Note) -> Option<Ref
         Note::If(arms, rest) => {
             let arms = arms.as_slice();
             let rest = rest.as_slice();
-            told_by_if(first, inside, arms, rest)
+            let behind_arms = told_by_arms(first, inside, arms);
+            told_by(behind_arms, inside, rest)
         }
         Note::Loop(test, _, body) => {
             let test = test.as_slice();
             let body = body.as_slice();
-            told_by_loop(first, test, body)
+            let behind_test = told_by(first, true, test);
+            told_by(behind_test, true, body)
         }
         Note::Break(p) => loop_word(first, inside, *p),
         Note::Continue(p) => loop_word(first, inside, *p),
@@ -54,22 +56,14 @@ fn told_by_arm(first: Option<Refusal>, inside: bool, arm: &NoteArm) -> Option<Re
 }
 
 #[cycle(told)]
-fn told_by_if(first: Option<Refusal>, inside: bool, arms: &[NoteArm], rest: &[Note]) -> Option<Refusal>
-    ensures { result ≡ spec.told_by first inside (an_if (arms_of arms.now) (steps_of rest.now)) }
+fn told_by_arms(first: Option<Refusal>, inside: bool, arms: &[NoteArm]) -> Option<Refusal>
+    ensures { result ≡ spec.told_by_all first inside (in_turn (arms_of arms.now)) }
 {
     let mut first = first;
     for arm in arms {
         first = told_by_arm(first, inside, arm);
     }
-    told_by(first, inside, rest)
-}
-
-#[cycle(told)]
-fn told_by_loop(first: Option<Refusal>, test: &[Note], body: &[Note]) -> Option<Refusal>
-    ensures { result ≡ spec.told_by_all (spec.told_by_all first true (steps_of test.now)) true (steps_of body.now) }
-{
-    let behind_test = told_by(first, true, test);
-    told_by(behind_test, true, body)
+    first
 }
 
 /// The first refusal of those so far and of those that the notes tell.

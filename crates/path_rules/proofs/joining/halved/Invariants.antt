@@ -1,4 +1,4 @@
-use Rattle.std.proofs.Common.{◌≡◌, ◌+◌, ◌*◌, ◌<◌, ◌≤◌, ◌++◌, reverse, vec_len}
+use Rattle.std.proofs.Common.{◌+◌, ◌*◌, ◌<◌, ◌≤◌, ◌++◌, reverse, vec_len}
 use Rattle.path_rules.specs.Steps.{Steps}
 use Rattle.path_rules.specs.Describes.{Together}
 use Rattle.path_rules.proofs.joining.halved.Given as goal
