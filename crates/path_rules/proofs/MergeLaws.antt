@@ -18,7 +18,7 @@ pub rises_more : (m n : ℕ) (ts : List Touched) → m ≤ n → Rises n ts → 
 rises_more m n [] h k = tt
 rises_more m n (t ∷ ts) h k = let l = k.0 in (omega arith, k.1)
 
-absent : (o : Exits) (x n : ℕ) (ts : List Touched) → x < n → Rises n ts → effect_in o x ts ≡ untouched o
+pub absent : (o : Exits) (x n : ℕ) (ts : List Touched) → x < n → Rises n ts → effect_in o x ts ≡ untouched o
 absent o x n [] h k = refl
 absent o x n (t ∷ ts) h k =
     let l = k.0 in
