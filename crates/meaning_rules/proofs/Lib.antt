@@ -1,4 +1,8 @@
 pub mod Equalities
 pub mod Indexed
 pub mod Reading
-pub mod Called
+pub mod CalleeLaws
+pub mod FittingLaws
+pub mod Lasts
+pub mod RangeLaws
+pub mod HexLaws

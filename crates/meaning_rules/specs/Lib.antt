@@ -5,3 +5,7 @@ pub mod Betweens
 pub mod Indexes
 pub mod Reads
 pub mod Callees
+pub mod Fittings
+pub mod Callings
+pub mod Hexes
+pub mod Ranges

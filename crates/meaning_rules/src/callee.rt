@@ -130,7 +130,7 @@ fn function_hope(alloc: Global, function: Option<&Signature>, i: usize) -> Resul
     }
 }
 
-#[tactic(auto, using(crate::proofs::Called::hope_same))]
+#[tactic(auto, using(crate::proofs::CalleeLaws::hope_same))]
 /// What is hoped of the argument for the parameter of this number.
 pub fn hope_at(alloc: Global, functions: &List<Signature>, callee: Callee, i: usize) -> Result<Hope, Memory>
     ensures { IfOk result (λ h. h ≡ spec.hope_at (callees.meant functions.now callee) i) }
@@ -147,7 +147,7 @@ pub fn hope_at(alloc: Global, functions: &List<Signature>, callee: Callee, i: us
     }
 }
 
-#[tactic(auto, using(crate::proofs::Called::takes_same))]
+#[tactic(auto, using(crate::proofs::CalleeLaws::takes_same))]
 /// Whether a literal stays one as the argument for the parameter of this number.
 pub fn takes_literal(callee: Callee, i: usize) -> bool
     ensures { (fs : List Signature) → result ≡ spec.takes_literal (callees.meant fs callee) i }

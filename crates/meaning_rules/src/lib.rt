@@ -1,13 +1,18 @@
 //! What an expression means, from the meanings of its parts.
 #![tactic(auto)]
 
+mod applying;
 mod arguments;
 mod callee;
+mod calling;
 mod choosing;
+mod fitting;
+mod hexadecimal;
 mod meaning;
 mod named;
 mod operand;
 mod operators;
+mod ranges_called;
 mod scope;
 mod slots;
 mod subscripts;
@@ -18,6 +23,7 @@ mod types;
 mod types_called;
 mod values;
 
+pub use applying::applied;
 pub use arguments::{Known, given, slot_hope, tell_slot};
 pub use callee::{Callee, Slot, called, hope_at, takes_literal};
 pub use choosing::{choose_values, chosen};

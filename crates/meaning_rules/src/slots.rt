@@ -107,7 +107,7 @@ fn slot_of(function: Option<&Signature>, i: usize, used: &Used, key: Option<&Wor
     }
 }
 
-#[tactic(auto, using(crate::proofs::Called::slot_same))]
+#[tactic(auto, using(crate::proofs::CalleeLaws::slot_same))]
 /// Which parameter the argument of number `i` in reading order, at `place`, is for. What can't be called, or is not known, asks nothing.
 pub fn slot_for(functions: &List<Signature>, callee: Callee, i: usize, used: &Used, key: Option<&Word>, place: Place) -> Slot
     ensures { result ≡ spec.slot (callees.meant functions.now callee) i used.now (option_copied key) place }

@@ -9,7 +9,7 @@ ghost use Rattle.meaning_rules.specs.Indexes as indexes;
 use crate::meaning::{Hope, Lit, Meaning, Typed};
 use crate::operand::{End, Operand};
 use crate::operators::is_missing;
-use crate::telling::{breaks, expr_in, node, of_one, of_two, scalar_value, three_parts, two_parts};
+use crate::telling::{breaks, expr_in, node, of_one, of_two, scalar_value, small, three_parts, two_parts};
 use crate::types::{copied, scalar_of, tuple_parts};
 use crate::values::{fits_some, settled_as};
 use algopy_library::Scalar;
@@ -93,15 +93,6 @@ fn item_type(alloc: Global, ty: &SourceType, number: u64) -> Result<Option<Sourc
     }
 }
 
-fn small(number: u64) -> Result<u32, Memory>
-    ensures { IfOk result (λ n. n ≡ number) }
-{
-    match u32::try_from(number) {
-        Ok(number) => Ok(number),
-        Err(_) => Err(Memory),
-    }
-}
-
 fn item_node(alloc: Global, place: Place, base: Typed, number: u64, ty: SourceType) -> Result<Meaning, Memory>
     ensures { IfOk result (λ m. m ≡ (meanings.node place ty (ExprKind.Item base.expr (Index.Fixed number))).meaning) }
 {
@@ -131,7 +122,6 @@ fn literal_index(alloc: Global, into: &mut Notes, place: Place, at: Place, base:
 }
 
 /// An index of what is no Bytes: P14 on what is no tuple, and on an index of a tuple that is no number literal in range.
-
 fn tuple_index(alloc: Global, into: &mut Notes, place: Place, at: Place, base: Typed, index: Operand) -> Result<Meaning, Memory>
     ensures told { OnOk result (into.new ≡ into.old ++ (indexes.tuple_index place at base (types.tuple_parts base.ty) index).notes) }
     ensures meaning { IfOk result (λ m. m ≡ (indexes.tuple_index place at base (types.tuple_parts base.ty) index).meaning) }

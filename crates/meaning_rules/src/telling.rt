@@ -75,6 +75,16 @@ pub(crate) fn node(alloc: Global, place: Place, ty: SourceType, kind: ExprKind) 
     }))
 }
 
+/// The number of a part of something, as typed trees write it. Of 2^32 parts or more there would be want of memory.
+pub(crate) fn small(number: u64) -> Result<u32, Memory>
+    ensures { IfOk result (λ n. n ≡ number) }
+{
+    match u32::try_from(number) {
+        Ok(number) => Ok(number),
+        Err(_) => Err(Memory),
+    }
+}
+
 /// The typed tree alone.
 pub(crate) fn expr_in(typed: Typed) -> Expr
     ensures { result ≡ typed.expr }

@@ -1,4 +1,4 @@
-//! Calls of types and of `urange`, from their one argument or their two or three (Algorand Python guide, "Types"); P14 and P15.
+//! Calls of types, from their argument, if there is one (Algorand Python guide, "Types"); P14 and P15.
 
 ghost use Rattle.std.specs.Prelude.{◌≡◌, [], ◌∷◌, ◌++◌, Some, IfOk, OnOk};
 ghost use Rattle.source_names.specs.Types as types;
@@ -6,15 +6,14 @@ ghost use Rattle.meaning_rules.specs.Meanings as meanings;
 ghost use Rattle.meaning_rules.specs.Calls as spec;
 
 use crate::arguments::Known;
-use crate::meaning::{Lit, Meaning, Range, Typed};
-use crate::telling::{break_rule, breaks, expr_in, of_one, scalar_value};
+use crate::meaning::{Lit, Meaning, Typed};
+use crate::telling::{breaks, of_one, scalar_value};
 use crate::types::scalar_of;
-use crate::values::{fits_type, lit_node, literal_as};
+use crate::values::lit_node;
 use algopy_library::Scalar;
-use awst::{Expr, ExprKind, Primitive};
+use awst::{ExprKind, Primitive};
 use path_rules::Notes;
 use puya_base::{Blob, Memory, Place, Rule};
-use source_names::SourceType;
 use std::alloc::Global;
 
 /// What a type that is called without arguments gives: 0, no bytes, an empty text; P15 on the other types.
@@ -97,79 +96,18 @@ pub(crate) fn of_known(alloc: Global, into: &mut Notes, place: Place, scalar: Sc
     }
 }
 
-/// A bound of `urange`: a number; P14 on anything else.
-fn bound(into: &mut Notes, known: Known) -> Result<Option<Typed>, Memory>
-    ensures told { OnOk result (into.new ≡ into.old ++ (spec.bound known).notes) }
-    ensures typed { IfOk result (λ t. t ≡ (spec.bound known).typed) }
+/// A type that is called: without arguments what is empty, with one what this makes of it; P15 on more.
+#[tactic(auto, using(crate::proofs::Lasts::types_called))]
+pub(crate) fn call_type(alloc: Global, into: &mut Notes, place: Place, scalar: Scalar, mut known: Vec<Known>) -> Result<Meaning, Memory>
+    ensures told { OnOk result (into.new ≡ into.old ++ (spec.call_type place scalar known.items).notes) }
+    ensures meaning { IfOk result (λ m. m ≡ (spec.call_type place scalar known.items).meaning) }
 {
-    let number = SourceType::Scalar(Scalar::UInt64);
-    match known {
-        Known::Value(_, typed) => fits_type(into, &number, typed),
-        Known::Literal(_, at, lit) => literal_as(into, &number, at, lit),
-    }
-}
-
-fn no_step(into: &mut Notes, place: Place) -> Result<Option<u64>, Memory>
-    ensures told { OnOk result (into.new ≡ into.old ++ (spec.no_step place).notes) }
-    ensures step { IfOk result (λ s. s ≡ (spec.no_step place).step) }
-{
-    break_rule(into, Rule::P15, place)?;
-    Ok(None)
-}
-
-fn step_number(into: &mut Notes, place: Place, number: u64) -> Result<Option<u64>, Memory>
-    ensures told { OnOk result (into.new ≡ into.old ++ (spec.step_number place number).notes) }
-    ensures step { IfOk result (λ s. s ≡ (spec.step_number place number).step) }
-{
-    match number {
-        0 => no_step(into, place),
-        _ => Ok(Some(number)),
-    }
-}
-
-fn step_literal(into: &mut Notes, place: Place, lit: Lit) -> Result<Option<u64>, Memory>
-    ensures told { OnOk result (into.new ≡ into.old ++ (spec.step_literal place lit).notes) }
-    ensures step { IfOk result (λ s. s ≡ (spec.step_literal place lit).step) }
-{
-    match lit {
-        Lit::Number(number) => step_number(into, place, number),
-        _ => no_step(into, place),
-    }
-}
-
-/// P15 on a step of `urange` that is no literal from 1.
-fn step_of(into: &mut Notes, known: Known) -> Result<Option<u64>, Memory>
-    ensures told { OnOk result (into.new ≡ into.old ++ (spec.step_of known).notes) }
-    ensures step { IfOk result (λ s. s ≡ (spec.step_of known).step) }
-{
-    match known {
-        Known::Value(_, typed) => no_step(into, typed.expr.place),
-        Known::Literal(_, at, lit) => step_literal(into, at, lit),
-    }
-}
-
-fn range_from(start: Option<Typed>, stop: Option<Typed>, step: Option<u64>) -> Meaning
-    ensures { result ≡ spec.range_from start stop step }
-{
-    match (start, stop, step) {
-        (Some(start), Some(stop), Some(step)) => Meaning::Range(Range {
-            start: Some(expr_in(start)),
-            stop: expr_in(stop),
-            step,
-        }),
-        _ => Meaning::Unknown,
-    }
-}
-
-fn range_to(stop: Option<Typed>) -> Meaning
-    ensures { result ≡ spec.range_to stop }
-{
-    match stop {
-        Some(stop) => Meaning::Range(Range {
-            start: None,
-            stop: expr_in(stop),
-            step: 1,
-        }),
-        None => Meaning::Unknown,
+    let Some(last) = known.pop() else {
+        return empty_of(alloc, into, place, scalar);
+    };
+    if known.is_empty() {
+        of_known(alloc, into, place, scalar, last)
+    } else {
+        breaks(into, Rule::P15, place)
     }
 }
