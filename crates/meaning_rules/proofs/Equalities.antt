@@ -1,10 +1,15 @@
 -- What the forms of a type are.
 use Rattle.std.proofs.Common.{◌≡◌, ◌∙◌, Bool, true, false, List, map, Option, Some, None, ap, sym}
 use Rattle.algopy_library.specs.declared.scalar.Scalar.{Scalar}
+use Rattle.puya_base.specs.declared.source.Place.{Place}
+use Rattle.awst.specs.declared.expression.ExprKind.{ExprKind}
+use Rattle.awst.specs.declared.ty.Ty.{Ty}
 use Rattle.awst.specs.declared.ty.Ty.TheVariants as awst
 use Rattle.source_names.specs.declared.types.SourceType.{SourceType}
 use Rattle.source_names.specs.declared.types.SourceType.TheVariants as ty
 use Rattle.source_names.specs.Types.{scalar_in, scalar_of, nothing_in, is_nothing, tuple_parts, typed, typed_scalar, plain, plains, same, same_type, same_scalar, one, nothing, tuple}
+use Rattle.meaning_rules.specs.declared.meaning.Typed.{Typed}
+use Rattle.meaning_rules.specs.Meanings.{a_node}
 use Rattle.source_names.specs.Equations.{plain-Scalar, plain-Nothing, plain-Tuple, typed-Scalar, typed-Nothing, typed-Tuple, parts-Scalar, parts-Nothing, parts-Tuple}
 
 pub scalar_of-Scalar : (t : SourceType) (s : Scalar) → t ≡ ty.Scalar s → scalar_of t ≡ Some s
@@ -53,9 +58,11 @@ same_type-Nothing t u h = ap (λ x. same_type x (ty.Scalar u)) h ∙ ap (λ x. s
 pub same_type-Tuple : (t : SourceType) (ts : List SourceType) (u : Scalar) → t ≡ ty.Tuple ts → same_type t (ty.Scalar u) ≡ false
 same_type-Tuple t ts u h = ap (λ x. same_type x (ty.Scalar u)) h ∙ ap (λ x. same x (plain (ty.Scalar u))) (plain-Tuple ts) ∙ ap (same (tuple (plains ts))) (plain-Scalar u)
 
-ruleset pub types = (plain-Scalar, plain-Nothing, plain-Tuple, typed-Scalar, typed-Nothing, typed-Tuple, parts-Scalar, parts-Nothing, parts-Tuple)
-ruleset pub scalars = (scalar_of-Scalar, scalar_of-Nothing, scalar_of-Tuple)
-ruleset pub nothings = (is_nothing-Scalar, is_nothing-Nothing, is_nothing-Tuple)
-ruleset pub parts = (tuple_parts-Scalar, tuple_parts-Nothing, tuple_parts-Tuple)
-ruleset pub trees = (typed-of_Scalar, typed-of_Nothing, typed-of_Tuple)
+abbrev of_type : Place → SourceType → Ty → ExprKind → Typed
+of_type p t u k = record { ty = t; expr = record { place = p; ty = u; kind = k } }
+
+-- a node of one value
+pub a_node-Scalar : (p : Place) (s : Scalar) (u : Ty) (k : ExprKind) → u ≡ typed_scalar s → of_type p (ty.Scalar s) u k ≡ a_node p (ty.Scalar s) k
+a_node-Scalar p s u k h = ap (λ z. of_type p (ty.Scalar s) z k) (h ∙ sym (typed-Scalar s))
+
 ruleset pub alike = (same_type-Scalar, same_type-Nothing, same_type-Tuple)

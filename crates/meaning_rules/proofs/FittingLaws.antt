@@ -11,8 +11,8 @@ use Rattle.meaning_rules.specs.declared.arguments.Known.{Known}
 use Rattle.meaning_rules.specs.declared.arguments.Known.TheVariants.{Value as value_at, Literal as literal_at}
 use Rattle.meaning_rules.specs.declared.fitting.Fitted.{Fitted as Written}
 use Rattle.meaning_rules.specs.Meanings.{Valued}
-use Rattle.meaning_rules.specs.Calls.{Fitted, fitted, fitted_none, and_fitted, both_exprs, expr_of, admits_scalar}
-use Rattle.meaning_rules.specs.Fittings.{is_scalar, with_expr, with_argument, number_of, argument_test, with_tested, as_written}
+use Rattle.meaning_rules.specs.Calls.{Fitted, fitted, and_fitted, both_exprs, expr_of, admits_scalar}
+use Rattle.meaning_rules.specs.Fittings.{is_scalar, nothing_yet, with_expr, number_of, argument_test, with_tested, as_written}
 
 -- ---- what a form admits
 
@@ -52,9 +52,12 @@ joined None ys = None
 joined (Some xs) None = None
 joined (Some xs) (Some ys) = Some (xs ++ ys)
 
+abbrev made : Option (List Expr) → List ℕ → Written
+made es order = record { exprs = es; order = order }
+
 -- those so far, and those behind them
 abbrev pub and_rest : Written → Fitted → Written
-and_rest f g = record { exprs = joined f.exprs g.exprs; order = f.order ++ g.order }
+and_rest f g = made (joined f.exprs g.exprs) (f.order ++ g.order)
 
 joined-with : (es : Option (List Expr)) (t : Option Typed) (ys : Option (List Expr)) → joined (with_expr es t) ys ≡ joined es (both_exprs (expr_of t) ys)
 joined-with None t ys = refl
@@ -66,8 +69,12 @@ joined-none : (es : Option (List Expr)) → joined es (Some []) ≡ es
 joined-none None = refl
 joined-none (Some es) = ap Some (append-nil es)
 
-written : (e e' : Option (List Expr)) (o o' : List ℕ) → e ≡ e' → o ≡ o' → (let a : Written = record { exprs = e; order = o } in a) ≡ record { exprs = e'; order = o' }
-written e e' o o' h k = ap (λ z. record { exprs = z; order = o }) h ∙ ap (λ z. record { exprs = e'; order = z }) k
+both_same : (e f : Option (List Expr)) (o q : List ℕ) → e ≡ f → o ≡ q → made e o ≡ made f q
+both_same e f o q h k = ap (λ z. made z o) h ∙ ap (made f) k
+
+nothing_before : (es : Option (List Expr)) (order : List ℕ) → made (joined (Some []) es) order ≡ made es order
+nothing_before None order = refl
+nothing_before (Some es) order = refl
 
 module _ (test : ℕ → Typed → Valued) where
   fitted-more : (k : Known) (ks : List Known) → fitted test (k ∷ ks) ≡ and_fitted (number_of k) (argument_test test k) (fitted test ks)
@@ -84,7 +91,7 @@ module _ (test : ℕ → Typed → Valued) where
       → and_rest next (fitted test more) ≡ whole
   next_fitted so_far next whole k rest more e n h =
       ap (λ z. and_rest z (fitted test more)) n
-      ∙ written _ _ _ _ (joined-with so_far.exprs (argument_test test k).typed (fitted test more).exprs) (append_assoc so_far.order (number_of k ∷ []) (fitted test more).order)
+      ∙ both_same _ _ _ _ (joined-with so_far.exprs (argument_test test k).typed (fitted test more).exprs) (append_assoc so_far.order (number_of k ∷ []) (fitted test more).order)
       ∙ sym (ap (and_rest so_far) (ap (fitted test) e ∙ fitted-more k more)) ∙ h
 
   pub last_told : (into whole : List Note) (rest : List Known) → rest ≡ [] → into ++ (fitted test rest).notes ≡ whole → into ≡ whole
@@ -92,10 +99,8 @@ module _ (test : ℕ → Typed → Valued) where
 
   pub last_fitted : (so_far whole : Written) (rest : List Known) → rest ≡ [] → and_rest so_far (fitted test rest) ≡ whole → so_far ≡ whole
   last_fitted so_far whole rest e h =
-      sym (written _ _ _ _ (joined-none so_far.exprs) (append-nil so_far.order)) ∙ sym (ap (λ r. and_rest so_far (fitted test r)) e) ∙ h
+      sym (both_same _ _ _ _ (joined-none so_far.exprs) (append-nil so_far.order)) ∙ sym (ap (λ r. and_rest so_far (fitted test r)) e) ∙ h
 
-  pub first_fitted : (so_far : Written) (rest whole : List Known) → so_far ≡ record { exprs = Some []; order = [] } → rest ≡ whole → and_rest so_far (fitted test rest) ≡ as_written (fitted test whole)
-  first_fitted so_far rest whole e h = ap (λ z. and_rest z (fitted test rest)) e ∙ nothing_before (fitted test rest) ∙ ap (λ r. as_written (fitted test r)) h
-    where
-    nothing_before : (f : Fitted) → and_rest (record { exprs = Some []; order = [] }) f ≡ as_written f
-    nothing_before f = elim f.exprs as (λ es. (let a : Written = record { exprs = joined (Some []) es; order = f.order } in a) ≡ record { exprs = es; order = f.order }) [ None ↦ refl | Some es ↦ refl ]
+  pub first_fitted : (so_far : Written) (rest whole : List Known) → so_far ≡ nothing_yet → rest ≡ whole → and_rest so_far (fitted test rest) ≡ as_written (fitted test whole)
+  first_fitted so_far rest whole e h =
+      ap (λ z. and_rest z (fitted test rest)) e ∙ nothing_before (fitted test rest).exprs (fitted test rest).order ∙ ap (λ r. as_written (fitted test r)) h

@@ -6,3 +6,5 @@ pub mod FittingLaws
 pub mod Lasts
 pub mod RangeLaws
 pub mod HexLaws
+pub mod CopyLaws
+pub mod CallingLaws

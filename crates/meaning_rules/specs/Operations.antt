@@ -79,9 +79,13 @@ read_note p i = note.Read i p ∷ []
 -- P17 on a read before the first assignment or annotation in reading order
 abbrev pub read_status : Place → ℕ → Option Local → Judged
 read_status p i None = unknown
-read_status p i (Some l) = elim l.status [ status.Unseen ↦ record { notes = broken rule.P17 p ∷ read_note p i; meaning = meaning.Unknown }
-    | status.Fixed t ↦ elim t [ None ↦ record { notes = read_note p i; meaning = meaning.Unknown }
-        | Some u ↦ record { notes = read_note p i; meaning = meaning.Value (a_node p u (kind.Local i)) } ] ]
+read_status p i (Some l) = elim l.status [
+  | status.Unseen ↦ record { notes = broken rule.P17 p ∷ read_note p i; meaning = meaning.Unknown }
+  | status.Fixed t ↦ elim t [
+    | None ↦ record { notes = read_note p i; meaning = meaning.Unknown }
+    | Some u ↦ record { notes = read_note p i; meaning = meaning.Value (a_node p u (kind.Local i)) }
+  ]
+]
 
 abbrev pub constant_says : Place → Option Constant → Judged
 constant_says p None = unknown
@@ -152,12 +156,13 @@ abbrev pub member_of_value : Place → Word → Valued → Judged
 member_of_value p w v = after v.notes (member_when p w v.typed)
 
 abbrev pub judge_member : Scope → Place → Place → Word → Judged → Judged
-judge_member s p q w j = elim j.meaning
-    [ meaning.Thing t ↦ after j.notes (thing_member s p t w)
-    | meaning.Value t ↦ member_of_value p w (value hope.Free q j)
-    | meaning.Literal r l ↦ member_of_value p w (value hope.Free q j)
-    | meaning.Range r ↦ member_of_value p w (value hope.Free q j)
-    | meaning.Unknown ↦ j ]
+judge_member s p q w j = elim j.meaning [
+  | meaning.Thing t ↦ after j.notes (thing_member s p t w)
+  | meaning.Value t ↦ member_of_value p w (value hope.Free q j)
+  | meaning.Literal r l ↦ member_of_value p w (value hope.Free q j)
+  | meaning.Range r ↦ member_of_value p w (value hope.Free q j)
+  | meaning.Unknown ↦ j
+]
 
 -- ---- operators
 
@@ -493,4 +498,3 @@ absent_end = record { notes = []; end = no_end }
 
 abbrev pub judge_slice : Place → Valued → Ended → Ended → Judged
 judge_slice p b i j = after (b.notes ++ (i.notes ++ j.notes)) (slice_when p b.typed i.end j.end)
-

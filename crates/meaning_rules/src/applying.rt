@@ -18,7 +18,14 @@ use puya_base::{List, Memory, Place, Rule};
 use source_names::Signature;
 use std::alloc::Global;
 
-fn call_when(alloc: Global, into: &mut Notes, place: Place, number: u32, function: Option<&Signature>, known: Vec<Known>) -> Result<Meaning, Memory>
+fn call_when(
+    alloc: Global,
+    into: &mut Notes,
+    place: Place,
+    number: u32,
+    function: Option<&Signature>,
+    known: Vec<Known>,
+) -> Result<Meaning, Memory>
     ensures told { OnOk result (into.new ≡ into.old ++ (callings.call_when place number (option_copied function) known.items).notes) }
     ensures meaning { IfOk result (λ m. m ≡ (callings.call_when place number (option_copied function) known.items).meaning) }
 {
@@ -30,12 +37,26 @@ fn call_when(alloc: Global, into: &mut Notes, place: Place, number: u32, functio
 
 /// A call at `place`: P14 on what can't be called, P15 on another number of arguments, P14 on an argument of another type.
 #[tactic(auto, using(crate::proofs::CalleeLaws::applied_same))]
-pub fn applied(alloc: Global, into: &mut Notes, functions: &List<Signature>, place: Place, callee: Callee, known: Vec<Known>) -> Result<Meaning, Memory>
+pub fn applied(
+    alloc: Global,
+    into: &mut Notes,
+    functions: &List<Signature>,
+    place: Place,
+    callee: Callee,
+    known: Vec<Known>,
+) -> Result<Meaning, Memory>
     ensures told { OnOk result (into.new ≡ into.old ++ (spec.applied place (callees.meant functions.now callee) known.items).notes) }
     ensures meaning { IfOk result (λ m. m ≡ (spec.applied place (callees.meant functions.now callee) known.items).meaning) }
 {
     match callee {
-        Callee::Function(number) => call_when(alloc, into, place, number, functions.get(number as usize), known),
+        Callee::Function(number) => call_when(
+            alloc,
+            into,
+            place,
+            number,
+            functions.get(number as usize),
+            known,
+        ),
         Callee::Form(form) => call_form(alloc, into, place, &form, known),
         Callee::Type(scalar) => call_type(alloc, into, place, scalar, known),
         Callee::FromHex => call_hex(alloc, into, place, known.as_slice()),

@@ -54,7 +54,12 @@ fn slot_takes(callee: Callee, slot: Slot) -> bool
 }
 
 /// What is hoped of an argument.
-pub fn slot_hope(alloc: Global, functions: &List<Signature>, callee: Callee, slot: Slot) -> Result<Hope, Memory>
+pub fn slot_hope(
+    alloc: Global,
+    functions: &List<Signature>,
+    callee: Callee,
+    slot: Slot,
+) -> Result<Hope, Memory>
     ensures { IfOk result (λ h. h ≡ spec.slot_hope (callees.meant functions.now callee) slot) }
 {
     match slot {
@@ -73,7 +78,13 @@ fn known_value(number: usize, typed: Option<Typed>) -> Option<Known>
     }
 }
 
-fn hoped_literal(into: &mut Notes, hope: &Hope, number: usize, at: Place, lit: Lit) -> Result<Option<Known>, Memory>
+fn hoped_literal(
+    into: &mut Notes,
+    hope: &Hope,
+    number: usize,
+    at: Place,
+    lit: Lit,
+) -> Result<Option<Known>, Memory>
     ensures told { OnOk result (into.new ≡ into.old ++ (spec.given_literal false hope.now number at lit).notes) }
     ensures known { IfOk result (λ k. k ≡ (spec.given_literal false hope.now number at lit).known) }
 {
@@ -81,7 +92,15 @@ fn hoped_literal(into: &mut Notes, hope: &Hope, number: usize, at: Place, lit: L
     Ok(known_value(number, typed))
 }
 
-fn given_literal(alloc: Global, into: &mut Notes, functions: &List<Signature>, callee: Callee, slot: Slot, at: Place, lit: Lit) -> Result<Option<Known>, Memory>
+fn given_literal(
+    alloc: Global,
+    into: &mut Notes,
+    functions: &List<Signature>,
+    callee: Callee,
+    slot: Slot,
+    at: Place,
+    lit: Lit,
+) -> Result<Option<Known>, Memory>
     ensures told { let c = callees.meant functions.now callee in OnOk result (into.new ≡ into.old ++ (spec.given_literal (spec.slot_takes c slot) (spec.slot_hope c slot) (spec.slot_number slot) at lit).notes) }
     ensures known { let c = callees.meant functions.now callee in IfOk result (λ k. k ≡ (spec.given_literal (spec.slot_takes c slot) (spec.slot_hope c slot) (spec.slot_number slot) at lit).known) }
 {
@@ -93,7 +112,14 @@ fn given_literal(alloc: Global, into: &mut Notes, functions: &List<Signature>, c
     }
 }
 
-fn given_operand(alloc: Global, into: &mut Notes, functions: &List<Signature>, callee: Callee, slot: Slot, operand: Operand) -> Result<Option<Known>, Memory>
+fn given_operand(
+    alloc: Global,
+    into: &mut Notes,
+    functions: &List<Signature>,
+    callee: Callee,
+    slot: Slot,
+    operand: Operand,
+) -> Result<Option<Known>, Memory>
     ensures told { OnOk result (into.new ≡ into.old ++ (spec.given_operand (callees.meant functions.now callee) slot operand).notes) }
     ensures known { IfOk result (λ k. k ≡ (spec.given_operand (callees.meant functions.now callee) slot operand).known) }
 {
@@ -114,7 +140,15 @@ fn only_right(slot: Slot, known: Option<Known>) -> Option<Known>
 }
 
 /// An argument at `place` that is for `slot`, from its meaning: what is known of it.
-pub fn given(alloc: Global, into: &mut Notes, functions: &List<Signature>, callee: Callee, slot: Slot, place: Place, meaning: Meaning) -> Result<Option<Known>, Memory>
+pub fn given(
+    alloc: Global,
+    into: &mut Notes,
+    functions: &List<Signature>,
+    callee: Callee,
+    slot: Slot,
+    place: Place,
+    meaning: Meaning,
+) -> Result<Option<Known>, Memory>
     ensures told { OnOk result (into.new ≡ into.old ++ (callees.given_meaning (callees.meant functions.now callee) slot place meaning).notes) }
     ensures known { IfOk result (λ k. k ≡ (callees.given_meaning (callees.meant functions.now callee) slot place meaning).known) }
 {

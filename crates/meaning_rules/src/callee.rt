@@ -132,7 +132,12 @@ fn function_hope(alloc: Global, function: Option<&Signature>, i: usize) -> Resul
 
 #[tactic(auto, using(crate::proofs::CalleeLaws::hope_same))]
 /// What is hoped of the argument for the parameter of this number.
-pub fn hope_at(alloc: Global, functions: &List<Signature>, callee: Callee, i: usize) -> Result<Hope, Memory>
+pub fn hope_at(
+    alloc: Global,
+    functions: &List<Signature>,
+    callee: Callee,
+    i: usize,
+) -> Result<Hope, Memory>
     ensures { IfOk result (λ h. h ≡ spec.hope_at (callees.meant functions.now callee) i) }
 {
     match callee {

@@ -16,16 +16,34 @@ use puya_base::{List, Memory, Place, Rule};
 use source_names::{Signature, SourceType};
 use std::alloc::Global;
 
-fn call_node(alloc: Global, place: Place, function: u32, result_type: &Option<SourceType>, exprs: Exprs, order: Order) -> Result<Meaning, Memory>
+fn call_node(
+    alloc: Global,
+    place: Place,
+    function: u32,
+    result_type: &Option<SourceType>,
+    exprs: Exprs,
+    order: Order,
+) -> Result<Meaning, Memory>
     ensures { IfOk result (λ m. m ≡ (spec.called place function result_type.now order exprs).meaning) }
 {
     match result_type {
-        Some(ty) => node(alloc, place, copied(alloc, ty)?, ExprKind::Call(function, exprs, order)),
+        Some(ty) => node(
+            alloc,
+            place,
+            copied(alloc, ty)?,
+            ExprKind::Call(function, exprs, order),
+        ),
         None => Ok(Meaning::Unknown),
     }
 }
 
-fn called_when(alloc: Global, place: Place, function: u32, result_type: &Option<SourceType>, fitted: Fitted) -> Result<Meaning, Memory>
+fn called_when(
+    alloc: Global,
+    place: Place,
+    function: u32,
+    result_type: &Option<SourceType>,
+    fitted: Fitted,
+) -> Result<Meaning, Memory>
     ensures { IfOk result (λ m. m ≡ (callings.called_when place function result_type.now fitted).meaning) }
 {
     let Fitted { exprs, order } = fitted;
@@ -35,7 +53,14 @@ fn called_when(alloc: Global, place: Place, function: u32, result_type: &Option<
     }
 }
 
-fn with_params(alloc: Global, into: &mut Notes, place: Place, function: u32, signature: &Signature, known: Vec<Known>) -> Result<Meaning, Memory>
+fn with_params(
+    alloc: Global,
+    into: &mut Notes,
+    place: Place,
+    function: u32,
+    signature: &Signature,
+    known: Vec<Known>,
+) -> Result<Meaning, Memory>
     ensures told { OnOk result (into.new ≡ into.old ++ (callings.with_params place function signature.now known.items).notes) }
     ensures meaning { IfOk result (λ m. m ≡ (callings.with_params place function signature.now known.items).meaning) }
 {
@@ -44,7 +69,14 @@ fn with_params(alloc: Global, into: &mut Notes, place: Place, function: u32, sig
 }
 
 /// A call of a function of the contract, by its number; P15 on another number of arguments.
-pub(crate) fn call_function(alloc: Global, into: &mut Notes, place: Place, function: u32, signature: &Signature, known: Vec<Known>) -> Result<Meaning, Memory>
+pub(crate) fn call_function(
+    alloc: Global,
+    into: &mut Notes,
+    place: Place,
+    function: u32,
+    signature: &Signature,
+    known: Vec<Known>,
+) -> Result<Meaning, Memory>
     ensures told { OnOk result (into.new ≡ into.old ++ (spec.call_function place function signature.now known.items).notes) }
     ensures meaning { IfOk result (λ m. m ≡ (spec.call_function place function signature.now known.items).meaning) }
 {
@@ -83,12 +115,15 @@ fn form_count(form: &Form) -> usize
     4
 }
 
+#[tactic(auto, using(crate::proofs::CallingLaws::steps))]
 fn repeated(alloc: Global, count: u32, scalar: Scalar) -> Result<List<SourceType>, Memory>
     ensures { IfOk result (λ ts. ts ≡ spec.repeated count (SourceType.Scalar scalar)) }
 {
     let mut all = List::new(alloc);
-    for _i in 0..count {
+    let mut left = count;
+    while left > 0 {
         all.push(SourceType::Scalar(scalar))?;
+        left -= 1;
     }
     Ok(all)
 }
@@ -103,7 +138,12 @@ fn results_type(alloc: Global, count: u32, scalar: Scalar) -> Result<SourceType,
     }
 }
 
-fn form_node(alloc: Global, place: Place, form: &Form, exprs: Option<Exprs>) -> Result<Meaning, Memory>
+fn form_node(
+    alloc: Global,
+    place: Place,
+    form: &Form,
+    exprs: Option<Exprs>,
+) -> Result<Meaning, Memory>
     ensures { IfOk result (λ m. m ≡ (spec.result_when place exprs (spec.form_result place form.now)).meaning) }
 {
     let Some(exprs) = exprs else {
@@ -113,16 +153,31 @@ fn form_node(alloc: Global, place: Place, form: &Form, exprs: Option<Exprs>) -> 
     node(alloc, place, ty, ExprKind::Prim(form.prim, exprs))
 }
 
-fn with_form(alloc: Global, into: &mut Notes, place: Place, form: &Form, known: Vec<Known>) -> Result<Meaning, Memory>
+fn with_form(
+    alloc: Global,
+    into: &mut Notes,
+    place: Place,
+    form: &Form,
+    known: Vec<Known>,
+) -> Result<Meaning, Memory>
     ensures told { OnOk result (into.new ≡ into.old ++ (callings.with_form place form.now known.items).notes) }
     ensures meaning { IfOk result (λ m. m ≡ (callings.with_form place form.now known.items).meaning) }
 {
-    let Fitted { exprs, order: _order } = fitted_form(alloc, into, form, known)?;
+    let Fitted {
+        exprs,
+        order: _order,
+    } = fitted_form(alloc, into, form, known)?;
     form_node(alloc, place, form, exprs)
 }
 
 /// A call of a form of the library; P15 on another number of arguments, P14 on one of a type that it doesn't take.
-pub(crate) fn call_form(alloc: Global, into: &mut Notes, place: Place, form: &Form, known: Vec<Known>) -> Result<Meaning, Memory>
+pub(crate) fn call_form(
+    alloc: Global,
+    into: &mut Notes,
+    place: Place,
+    form: &Form,
+    known: Vec<Known>,
+) -> Result<Meaning, Memory>
     ensures told { OnOk result (into.new ≡ into.old ++ (spec.call_form place form.now known.items).notes) }
     ensures meaning { IfOk result (λ m. m ≡ (spec.call_form place form.now known.items).meaning) }
 {
@@ -137,21 +192,39 @@ fn log_node(alloc: Global, place: Place, exprs: Option<Exprs>) -> Result<Meaning
     ensures { IfOk result (λ m. m ≡ (spec.result_when place exprs (callings.log_result place)).meaning) }
 {
     match exprs {
-        Some(exprs) => node(alloc, place, SourceType::Nothing, ExprKind::Prim(Primitive::Log, exprs)),
+        Some(exprs) => node(
+            alloc,
+            place,
+            SourceType::Nothing,
+            ExprKind::Prim(Primitive::Log, exprs),
+        ),
         None => Ok(Meaning::Unknown),
     }
 }
 
-fn with_log(alloc: Global, into: &mut Notes, place: Place, known: Vec<Known>) -> Result<Meaning, Memory>
+fn with_log(
+    alloc: Global,
+    into: &mut Notes,
+    place: Place,
+    known: Vec<Known>,
+) -> Result<Meaning, Memory>
     ensures told { OnOk result (into.new ≡ into.old ++ (callings.with_log place known.items).notes) }
     ensures meaning { IfOk result (λ m. m ≡ (callings.with_log place known.items).meaning) }
 {
-    let Fitted { exprs, order: _order } = fitted_log(alloc, into, known)?;
+    let Fitted {
+        exprs,
+        order: _order,
+    } = fitted_log(alloc, into, known)?;
     log_node(alloc, place, exprs)
 }
 
 /// A call of `log`, of one argument at least; P15 where there is none.
-pub(crate) fn call_log(alloc: Global, into: &mut Notes, place: Place, known: Vec<Known>) -> Result<Meaning, Memory>
+pub(crate) fn call_log(
+    alloc: Global,
+    into: &mut Notes,
+    place: Place,
+    known: Vec<Known>,
+) -> Result<Meaning, Memory>
     ensures told { OnOk result (into.new ≡ into.old ++ (spec.call_log place known.items).notes) }
     ensures meaning { IfOk result (λ m. m ≡ (spec.call_log place known.items).meaning) }
 {

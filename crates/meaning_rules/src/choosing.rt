@@ -23,7 +23,13 @@ fn choice(alloc: Global, condition: Expr, a: Expr, b: Expr) -> Result<ExprKind, 
     Ok(ExprKind::Choose(condition, a, b))
 }
 
-fn chosen_by(alloc: Global, place: Place, condition: Typed, a: Typed, b: Typed) -> Result<Meaning, Memory>
+fn chosen_by(
+    alloc: Global,
+    place: Place,
+    condition: Typed,
+    a: Typed,
+    b: Typed,
+) -> Result<Meaning, Memory>
     ensures { IfOk result (λ m. m ≡ (spec.chosen_when place (Some condition) a b).meaning) }
 {
     let Typed { ty, expr } = a;
@@ -31,7 +37,13 @@ fn chosen_by(alloc: Global, place: Place, condition: Typed, a: Typed, b: Typed) 
     node(alloc, place, ty, kind)
 }
 
-fn chosen_when(alloc: Global, place: Place, condition: Option<Typed>, a: Typed, b: Typed) -> Result<Meaning, Memory>
+fn chosen_when(
+    alloc: Global,
+    place: Place,
+    condition: Option<Typed>,
+    a: Typed,
+    b: Typed,
+) -> Result<Meaning, Memory>
     ensures { IfOk result (λ m. m ≡ (spec.chosen_when place condition a b).meaning) }
 {
     match condition {
@@ -41,7 +53,15 @@ fn chosen_when(alloc: Global, place: Place, condition: Option<Typed>, a: Typed, 
 }
 
 /// Two values of a conditional expression at `place`; P14 at `at` where their types differ.
-pub fn chosen(alloc: Global, into: &mut Notes, place: Place, at: Place, condition: Option<Typed>, a: Typed, b: Typed) -> Result<Meaning, Memory>
+pub fn chosen(
+    alloc: Global,
+    into: &mut Notes,
+    place: Place,
+    at: Place,
+    condition: Option<Typed>,
+    a: Typed,
+    b: Typed,
+) -> Result<Meaning, Memory>
     ensures told { OnOk result (into.new ≡ into.old ++ (spec.chosen place at condition a b).notes) }
     ensures meaning { IfOk result (λ m. m ≡ (spec.chosen place at condition a b).meaning) }
 {
@@ -52,7 +72,15 @@ pub fn chosen(alloc: Global, into: &mut Notes, place: Place, at: Place, conditio
     }
 }
 
-fn with_first(alloc: Global, into: &mut Notes, place: Place, at: Place, condition: Option<Typed>, a: Typed, b: Option<Typed>) -> Result<Meaning, Memory>
+fn with_first(
+    alloc: Global,
+    into: &mut Notes,
+    place: Place,
+    at: Place,
+    condition: Option<Typed>,
+    a: Typed,
+    b: Option<Typed>,
+) -> Result<Meaning, Memory>
     ensures told { OnOk result (into.new ≡ into.old ++ (spec.choose_two place at condition (Some a) b).notes) }
     ensures meaning { IfOk result (λ m. m ≡ (spec.choose_two place at condition (Some a) b).meaning) }
 {
@@ -62,7 +90,15 @@ fn with_first(alloc: Global, into: &mut Notes, place: Place, at: Place, conditio
     }
 }
 
-fn choose_two(alloc: Global, into: &mut Notes, place: Place, at: Place, condition: Option<Typed>, a: Option<Typed>, b: Option<Typed>) -> Result<Meaning, Memory>
+fn choose_two(
+    alloc: Global,
+    into: &mut Notes,
+    place: Place,
+    at: Place,
+    condition: Option<Typed>,
+    a: Option<Typed>,
+    b: Option<Typed>,
+) -> Result<Meaning, Memory>
     ensures told { OnOk result (into.new ≡ into.old ++ (spec.choose_two place at condition a b).notes) }
     ensures meaning { IfOk result (λ m. m ≡ (spec.choose_two place at condition a b).meaning) }
 {
@@ -72,7 +108,13 @@ fn choose_two(alloc: Global, into: &mut Notes, place: Place, at: Place, conditio
     }
 }
 
-fn literal_beside(into: &mut Notes, hope: &Hope, ty: &SourceType, place: Place, lit: Lit) -> Result<Option<Typed>, Memory>
+fn literal_beside(
+    into: &mut Notes,
+    hope: &Hope,
+    ty: &SourceType,
+    place: Place,
+    lit: Lit,
+) -> Result<Option<Typed>, Memory>
     ensures told { OnOk result (into.new ≡ into.old ++ (meanings.literal (spec.beside hope.now ty.now) place lit).notes) }
     ensures typed { IfOk result (λ t. t ≡ (meanings.literal (spec.beside hope.now ty.now) place lit).typed) }
 {
@@ -83,7 +125,16 @@ fn literal_beside(into: &mut Notes, hope: &Hope, ty: &SourceType, place: Place, 
     }
 }
 
-fn second_literal(alloc: Global, into: &mut Notes, place: Place, hope: &Hope, condition: Option<Typed>, a: Typed, at: Place, lit: Lit) -> Result<Meaning, Memory>
+fn second_literal(
+    alloc: Global,
+    into: &mut Notes,
+    place: Place,
+    hope: &Hope,
+    condition: Option<Typed>,
+    a: Typed,
+    at: Place,
+    lit: Lit,
+) -> Result<Meaning, Memory>
     ensures told { OnOk result (into.new ≡ into.old ++ (spec.choose_literal place at condition a (meanings.literal (spec.beside hope.now a.ty) at lit)).notes) }
     ensures meaning { IfOk result (λ m. m ≡ (spec.choose_literal place at condition a (meanings.literal (spec.beside hope.now a.ty) at lit)).meaning) }
 {
@@ -91,7 +142,16 @@ fn second_literal(alloc: Global, into: &mut Notes, place: Place, hope: &Hope, co
     with_first(alloc, into, place, at, condition, a, b)
 }
 
-fn first_literal(alloc: Global, into: &mut Notes, place: Place, hope: &Hope, condition: Option<Typed>, at: Place, lit: Lit, b: Typed) -> Result<Meaning, Memory>
+fn first_literal(
+    alloc: Global,
+    into: &mut Notes,
+    place: Place,
+    hope: &Hope,
+    condition: Option<Typed>,
+    at: Place,
+    lit: Lit,
+    b: Typed,
+) -> Result<Meaning, Memory>
     ensures told { OnOk result (into.new ≡ into.old ++ (spec.choose_first place at condition (meanings.literal (spec.beside hope.now b.ty) at lit) b).notes) }
     ensures meaning { IfOk result (λ m. m ≡ (spec.choose_first place at condition (meanings.literal (spec.beside hope.now b.ty) at lit) b).meaning) }
 {
@@ -99,7 +159,17 @@ fn first_literal(alloc: Global, into: &mut Notes, place: Place, hope: &Hope, con
     choose_two(alloc, into, place, at, condition, a, Some(b))
 }
 
-fn two_literals(alloc: Global, into: &mut Notes, place: Place, hope: &Hope, condition: Option<Typed>, at: Place, a: Lit, second: Place, b: Lit) -> Result<Meaning, Memory>
+fn two_literals(
+    alloc: Global,
+    into: &mut Notes,
+    place: Place,
+    hope: &Hope,
+    condition: Option<Typed>,
+    at: Place,
+    a: Lit,
+    second: Place,
+    b: Lit,
+) -> Result<Meaning, Memory>
     ensures told { OnOk result (into.new ≡ into.old ++ (spec.choose_literals place second condition (meanings.literal hope.now at a) (meanings.literal hope.now second b)).notes) }
     ensures meaning { IfOk result (λ m. m ≡ (spec.choose_literals place second condition (meanings.literal hope.now at a) (meanings.literal hope.now second b)).meaning) }
 {
@@ -108,37 +178,71 @@ fn two_literals(alloc: Global, into: &mut Notes, place: Place, hope: &Hope, cond
     choose_two(alloc, into, place, second, condition, a, b)
 }
 
-fn value_or(alloc: Global, into: &mut Notes, place: Place, second: Place, hope: &Hope, condition: Option<Typed>, a: Typed, b: Operand) -> Result<Meaning, Memory>
+fn value_or(
+    alloc: Global,
+    into: &mut Notes,
+    place: Place,
+    second: Place,
+    hope: &Hope,
+    condition: Option<Typed>,
+    a: Typed,
+    b: Operand,
+) -> Result<Meaning, Memory>
     ensures told { OnOk result (into.new ≡ into.old ++ (spec.choose_values place second hope.now condition (Operand.Value a) b).notes) }
     ensures meaning { IfOk result (λ m. m ≡ (spec.choose_values place second hope.now condition (Operand.Value a) b).meaning) }
 {
     match b {
         Operand::Value(b) => chosen(alloc, into, place, second, condition, a, b),
-        Operand::Literal(at, lit) => second_literal(alloc, into, place, hope, condition, a, at, lit),
+        Operand::Literal(at, lit) => second_literal(
+            alloc, into, place, hope, condition, a, at, lit,
+        ),
         Operand::Missing => Ok(Meaning::Unknown),
     }
 }
 
-fn literal_or(alloc: Global, into: &mut Notes, place: Place, second: Place, hope: &Hope, condition: Option<Typed>, at: Place, lit: Lit, b: Operand) -> Result<Meaning, Memory>
+fn literal_or(
+    alloc: Global,
+    into: &mut Notes,
+    place: Place,
+    second: Place,
+    hope: &Hope,
+    condition: Option<Typed>,
+    at: Place,
+    lit: Lit,
+    b: Operand,
+) -> Result<Meaning, Memory>
     ensures told { OnOk result (into.new ≡ into.old ++ (spec.choose_values place second hope.now condition (Operand.Literal at lit) b).notes) }
     ensures meaning { IfOk result (λ m. m ≡ (spec.choose_values place second hope.now condition (Operand.Literal at lit) b).meaning) }
 {
     match b {
         Operand::Value(b) => first_literal(alloc, into, place, hope, condition, at, lit, b),
-        Operand::Literal(other, b) => two_literals(alloc, into, place, hope, condition, at, lit, other, b),
+        Operand::Literal(other, b) => two_literals(
+            alloc, into, place, hope, condition, at, lit, other, b,
+        ),
         Operand::Missing => Ok(Meaning::Unknown),
     }
 }
 
 /// The value of a conditional expression at `place`, whose second value stands at `second`. A literal takes what is hoped for,
 /// or else the type of the other value. Where just one of them is a literal, their difference is told at it, else at the second.
-pub fn choose_values(alloc: Global, into: &mut Notes, place: Place, second: Place, hope: &Hope, condition: Option<Typed>, a: Operand, b: Operand) -> Result<Meaning, Memory>
+pub fn choose_values(
+    alloc: Global,
+    into: &mut Notes,
+    place: Place,
+    second: Place,
+    hope: &Hope,
+    condition: Option<Typed>,
+    a: Operand,
+    b: Operand,
+) -> Result<Meaning, Memory>
     ensures told { OnOk result (into.new ≡ into.old ++ (spec.choose_values place second hope.now condition a b).notes) }
     ensures meaning { IfOk result (λ m. m ≡ (spec.choose_values place second hope.now condition a b).meaning) }
 {
     match a {
         Operand::Value(a) => value_or(alloc, into, place, second, hope, condition, a, b),
-        Operand::Literal(at, lit) => literal_or(alloc, into, place, second, hope, condition, at, lit, b),
+        Operand::Literal(at, lit) => literal_or(
+            alloc, into, place, second, hope, condition, at, lit, b,
+        ),
         Operand::Missing => Ok(Meaning::Unknown),
     }
 }

@@ -35,7 +35,11 @@ fn passes(into: &mut Notes, right: bool, typed: Typed) -> Result<Option<Typed>, 
     }
 }
 
-fn fits_param(into: &mut Notes, ty: &Option<SourceType>, typed: Typed) -> Result<Option<Typed>, Memory>
+fn fits_param(
+    into: &mut Notes,
+    ty: &Option<SourceType>,
+    typed: Typed,
+) -> Result<Option<Typed>, Memory>
     ensures told { OnOk result (into.new ≡ into.old ++ (spec.fits_param ty.now typed).notes) }
     ensures typed { IfOk result (λ t. t ≡ (spec.fits_param ty.now typed).typed) }
 {
@@ -45,7 +49,11 @@ fn fits_param(into: &mut Notes, ty: &Option<SourceType>, typed: Typed) -> Result
     }
 }
 
-fn fits_parameter(into: &mut Notes, param: Option<&Parameter>, typed: Typed) -> Result<Option<Typed>, Memory>
+fn fits_parameter(
+    into: &mut Notes,
+    param: Option<&Parameter>,
+    typed: Typed,
+) -> Result<Option<Typed>, Memory>
     ensures told { OnOk result (into.new ≡ into.old ++ (spec.fits_parameter (option_copied param) typed).notes) }
     ensures typed { IfOk result (λ t. t ≡ (spec.fits_parameter (option_copied param) typed).typed) }
 {
@@ -55,7 +63,12 @@ fn fits_parameter(into: &mut Notes, param: Option<&Parameter>, typed: Typed) -> 
     }
 }
 
-fn param_test(into: &mut Notes, signature: &Signature, number: usize, typed: Typed) -> Result<Option<Typed>, Memory>
+fn param_test(
+    into: &mut Notes,
+    signature: &Signature,
+    number: usize,
+    typed: Typed,
+) -> Result<Option<Typed>, Memory>
     ensures told { OnOk result (into.new ≡ into.old ++ (spec.param_test signature.now number typed).notes) }
     ensures typed { IfOk result (λ t. t ≡ (spec.param_test signature.now number typed).typed) }
 {
@@ -83,7 +96,12 @@ fn admits_scalar(admits: Admits, scalar: Option<Scalar>) -> bool
     }
 }
 
-fn form_test(into: &mut Notes, form: &Form, number: usize, typed: Typed) -> Result<Option<Typed>, Memory>
+fn form_test(
+    into: &mut Notes,
+    form: &Form,
+    number: usize,
+    typed: Typed,
+) -> Result<Option<Typed>, Memory>
     ensures told { OnOk result (into.new ≡ into.old ++ (spec.form_test form.now number typed).notes) }
     ensures typed { IfOk result (λ t. t ≡ (spec.form_test form.now number typed).typed) }
 {
@@ -142,7 +160,12 @@ fn with_argument(fitted: Fitted, number: usize, typed: Option<Typed>) -> Result<
 }
 
 /// A literal has no type there.
-fn no_literal(into: &mut Notes, fitted: Fitted, number: usize, place: Place) -> Result<Fitted, Memory>
+fn no_literal(
+    into: &mut Notes,
+    fitted: Fitted,
+    number: usize,
+    place: Place,
+) -> Result<Fitted, Memory>
     ensures told { OnOk result (into.new ≡ into.old ++ (meanings.value_breaks Rule.P14 place).notes) }
     ensures fitted { IfOk result (λ f. f ≡ fittings.with_argument fitted number None) }
 {
@@ -150,7 +173,12 @@ fn no_literal(into: &mut Notes, fitted: Fitted, number: usize, place: Place) -> 
     with_argument(fitted, number, typed)
 }
 
-fn with_param(into: &mut Notes, signature: &Signature, fitted: Fitted, argument: Known) -> Result<Fitted, Memory>
+fn with_param(
+    into: &mut Notes,
+    signature: &Signature,
+    fitted: Fitted,
+    argument: Known,
+) -> Result<Fitted, Memory>
     ensures told { OnOk result (into.new ≡ into.old ++ (fittings.argument_test (spec.param_test signature.now) argument).notes) }
     ensures fitted { IfOk result (λ f. f ≡ fittings.with_tested (spec.param_test signature.now) fitted argument) }
 {
@@ -163,7 +191,12 @@ fn with_param(into: &mut Notes, signature: &Signature, fitted: Fitted, argument:
     }
 }
 
-fn with_form(into: &mut Notes, form: &Form, fitted: Fitted, argument: Known) -> Result<Fitted, Memory>
+fn with_form(
+    into: &mut Notes,
+    form: &Form,
+    fitted: Fitted,
+    argument: Known,
+) -> Result<Fitted, Memory>
     ensures told { OnOk result (into.new ≡ into.old ++ (fittings.argument_test (spec.form_test form.now) argument).notes) }
     ensures fitted { IfOk result (λ f. f ≡ fittings.with_tested (spec.form_test form.now) fitted argument) }
 {
@@ -190,7 +223,12 @@ fn with_logged(into: &mut Notes, fitted: Fitted, argument: Known) -> Result<Fitt
 }
 
 /// The arguments of a function of the contract.
-pub(crate) fn fitted_params(alloc: Global, into: &mut Notes, signature: &Signature, known: Vec<Known>) -> Result<Fitted, Memory>
+pub(crate) fn fitted_params(
+    alloc: Global,
+    into: &mut Notes,
+    signature: &Signature,
+    known: Vec<Known>,
+) -> Result<Fitted, Memory>
     ensures told { OnOk result (into.new ≡ into.old ++ (spec.fitted (spec.param_test signature.now) known.items).notes) }
     ensures fitted { IfOk result (λ f. f ≡ fittings.as_written (spec.fitted (spec.param_test signature.now) known.items)) }
 {
@@ -202,7 +240,12 @@ pub(crate) fn fitted_params(alloc: Global, into: &mut Notes, signature: &Signatu
 }
 
 /// The arguments of a form of the library.
-pub(crate) fn fitted_form(alloc: Global, into: &mut Notes, form: &Form, known: Vec<Known>) -> Result<Fitted, Memory>
+pub(crate) fn fitted_form(
+    alloc: Global,
+    into: &mut Notes,
+    form: &Form,
+    known: Vec<Known>,
+) -> Result<Fitted, Memory>
     ensures told { OnOk result (into.new ≡ into.old ++ (spec.fitted (spec.form_test form.now) known.items).notes) }
     ensures fitted { IfOk result (λ f. f ≡ fittings.as_written (spec.fitted (spec.form_test form.now) known.items)) }
 {
@@ -214,7 +257,11 @@ pub(crate) fn fitted_form(alloc: Global, into: &mut Notes, form: &Form, known: V
 }
 
 /// The arguments of `log`.
-pub(crate) fn fitted_log(alloc: Global, into: &mut Notes, known: Vec<Known>) -> Result<Fitted, Memory>
+pub(crate) fn fitted_log(
+    alloc: Global,
+    into: &mut Notes,
+    known: Vec<Known>,
+) -> Result<Fitted, Memory>
     ensures told { OnOk result (into.new ≡ into.old ++ (spec.fitted spec.log_test known.items).notes) }
     ensures fitted { IfOk result (λ f. f ≡ fittings.as_written (spec.fitted spec.log_test known.items)) }
 {

@@ -48,10 +48,19 @@ fn hex_bytes(alloc: Global, text: &[u8]) -> Result<Option<Blob>, Memory>
         bytes.push(byte)?;
         rest = behind;
     }
-    if rest.is_empty() { Ok(Some(bytes)) } else { Ok(None) }
+    if rest.is_empty() {
+        Ok(Some(bytes))
+    } else {
+        Ok(None)
+    }
 }
 
-fn hex_data(into: &mut Notes, place: Place, at: Place, bytes: Option<Blob>) -> Result<Meaning, Memory>
+fn hex_data(
+    into: &mut Notes,
+    place: Place,
+    at: Place,
+    bytes: Option<Blob>,
+) -> Result<Meaning, Memory>
     ensures told { OnOk result (into.new ≡ into.old ++ (spec.hex_data place at bytes).notes) }
     ensures meaning { IfOk result (λ m. m ≡ (spec.hex_data place at bytes).meaning) }
 {
@@ -61,7 +70,13 @@ fn hex_data(into: &mut Notes, place: Place, at: Place, bytes: Option<Blob>) -> R
     }
 }
 
-fn hex_text(alloc: Global, into: &mut Notes, place: Place, at: Place, text: &Blob) -> Result<Meaning, Memory>
+fn hex_text(
+    alloc: Global,
+    into: &mut Notes,
+    place: Place,
+    at: Place,
+    text: &Blob,
+) -> Result<Meaning, Memory>
     ensures told { OnOk result (into.new ≡ into.old ++ (spec.hex_data place at (spec.hex_bytes text.now)).notes) }
     ensures meaning { IfOk result (λ m. m ≡ (spec.hex_data place at (spec.hex_bytes text.now)).meaning) }
 {
@@ -69,7 +84,13 @@ fn hex_text(alloc: Global, into: &mut Notes, place: Place, at: Place, text: &Blo
     hex_data(into, place, at, bytes)
 }
 
-fn hex_literal(alloc: Global, into: &mut Notes, place: Place, at: Place, lit: &Lit) -> Result<Meaning, Memory>
+fn hex_literal(
+    alloc: Global,
+    into: &mut Notes,
+    place: Place,
+    at: Place,
+    lit: &Lit,
+) -> Result<Meaning, Memory>
     ensures told { OnOk result (into.new ≡ into.old ++ (spec.hex_literal place at lit.now).notes) }
     ensures meaning { IfOk result (λ m. m ≡ (spec.hex_literal place at lit.now).meaning) }
 {
@@ -80,7 +101,12 @@ fn hex_literal(alloc: Global, into: &mut Notes, place: Place, at: Place, lit: &L
     }
 }
 
-fn hex_known(alloc: Global, into: &mut Notes, place: Place, known: &Known) -> Result<Meaning, Memory>
+fn hex_known(
+    alloc: Global,
+    into: &mut Notes,
+    place: Place,
+    known: &Known,
+) -> Result<Meaning, Memory>
     ensures told { OnOk result (into.new ≡ into.old ++ (hexes.hex_known place known.now).notes) }
     ensures meaning { IfOk result (λ m. m ≡ (hexes.hex_known place known.now).meaning) }
 {
@@ -92,7 +118,12 @@ fn hex_known(alloc: Global, into: &mut Notes, place: Place, known: &Known) -> Re
 
 #[tactic(auto, using(crate::proofs::HexLaws::called))]
 /// A call of `Bytes.from_hex`; P15 on another number of arguments than one.
-pub(crate) fn call_hex(alloc: Global, into: &mut Notes, place: Place, known: &[Known]) -> Result<Meaning, Memory>
+pub(crate) fn call_hex(
+    alloc: Global,
+    into: &mut Notes,
+    place: Place,
+    known: &[Known],
+) -> Result<Meaning, Memory>
     ensures told { OnOk result (into.new ≡ into.old ++ (spec.call_hex place known.now).notes) }
     ensures meaning { IfOk result (λ m. m ≡ (spec.call_hex place known.now).meaning) }
 {

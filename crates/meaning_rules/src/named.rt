@@ -58,7 +58,12 @@ fn unseen_read(into: &mut Notes, place: Place, variable: u32) -> Result<Meaning,
     Ok(Meaning::Unknown)
 }
 
-fn typed_read(alloc: Global, place: Place, variable: u32, ty: &Option<SourceType>) -> Result<Meaning, Memory>
+fn typed_read(
+    alloc: Global,
+    place: Place,
+    variable: u32,
+    ty: &Option<SourceType>,
+) -> Result<Meaning, Memory>
     ensures { IfOk result (λ m. m ≡ (reads.fixed_read place variable ty.now).meaning) }
 {
     match ty {
@@ -67,7 +72,13 @@ fn typed_read(alloc: Global, place: Place, variable: u32, ty: &Option<SourceType
     }
 }
 
-fn fixed_read(alloc: Global, into: &mut Notes, place: Place, variable: u32, ty: &Option<SourceType>) -> Result<Meaning, Memory>
+fn fixed_read(
+    alloc: Global,
+    into: &mut Notes,
+    place: Place,
+    variable: u32,
+    ty: &Option<SourceType>,
+) -> Result<Meaning, Memory>
     ensures told { OnOk result (into.new ≡ into.old ++ (reads.fixed_read place variable ty.now).notes) }
     ensures meaning { IfOk result (λ m. m ≡ (reads.fixed_read place variable ty.now).meaning) }
 {
@@ -76,7 +87,13 @@ fn fixed_read(alloc: Global, into: &mut Notes, place: Place, variable: u32, ty: 
 }
 
 /// A read of a variable; P17 before the first assignment or annotation in reading order.
-pub fn read_local(alloc: Global, into: &mut Notes, place: Place, variable: u32, local: &Local) -> Result<Meaning, Memory>
+pub fn read_local(
+    alloc: Global,
+    into: &mut Notes,
+    place: Place,
+    variable: u32,
+    local: &Local,
+) -> Result<Meaning, Memory>
     ensures told { OnOk result (into.new ≡ into.old ++ (spec.read_status place variable (Some local.now)).notes) }
     ensures meaning { IfOk result (λ m. m ≡ (spec.read_status place variable (Some local.now)).meaning) }
 {
@@ -128,7 +145,14 @@ pub fn member_says(alloc: Global, place: Place, member: Member) -> Meaning
     }
 }
 
-fn value_operation(alloc: Global, into: &mut Notes, place: Place, at: Place, typed: Typed, operation: Option<Operation>) -> Result<Meaning, Memory>
+fn value_operation(
+    alloc: Global,
+    into: &mut Notes,
+    place: Place,
+    at: Place,
+    typed: Typed,
+    operation: Option<Operation>,
+) -> Result<Meaning, Memory>
     ensures told { OnOk result (into.new ≡ into.old ++ (spec.value_operation place at typed operation).notes) }
     ensures meaning { IfOk result (λ m. m ≡ (spec.value_operation place at typed operation).meaning) }
 {
@@ -148,7 +172,13 @@ fn operation_named(ty: &SourceType, name: &[u8]) -> Option<Operation>
 }
 
 #[tactic(auto, using(crate::proofs::Reading::member_same))]
-fn member_of_typed(alloc: Global, into: &mut Notes, place: Place, word: &Word, typed: Typed) -> Result<Meaning, Memory>
+fn member_of_typed(
+    alloc: Global,
+    into: &mut Notes,
+    place: Place,
+    word: &Word,
+    typed: Typed,
+) -> Result<Meaning, Memory>
     ensures told { OnOk result (into.new ≡ into.old ++ (spec.scalar_member place word.now typed (types.scalar_of typed.ty)).notes) }
     ensures meaning { IfOk result (λ m. m ≡ (spec.scalar_member place word.now typed (types.scalar_of typed.ty)).meaning) }
 {
@@ -157,7 +187,13 @@ fn member_of_typed(alloc: Global, into: &mut Notes, place: Place, word: &Word, t
 }
 
 /// A member of a value, at `place`; P09 on a member that the value's type hasn't.
-pub fn member_when(alloc: Global, into: &mut Notes, place: Place, word: &Word, typed: Option<Typed>) -> Result<Meaning, Memory>
+pub fn member_when(
+    alloc: Global,
+    into: &mut Notes,
+    place: Place,
+    word: &Word,
+    typed: Option<Typed>,
+) -> Result<Meaning, Memory>
     ensures told { OnOk result (into.new ≡ into.old ++ (spec.member_when place word.now typed).notes) }
     ensures meaning { IfOk result (λ m. m ≡ (spec.member_when place word.now typed).meaning) }
 {
@@ -167,7 +203,13 @@ pub fn member_when(alloc: Global, into: &mut Notes, place: Place, word: &Word, t
     }
 }
 
-fn application_id(alloc: Global, into: &mut Notes, place: Place, prim: Primitive, word: &Word) -> Result<Meaning, Memory>
+fn application_id(
+    alloc: Global,
+    into: &mut Notes,
+    place: Place,
+    prim: Primitive,
+    word: &Word,
+) -> Result<Meaning, Memory>
     ensures told { OnOk result (into.new ≡ into.old ++ (spec.application_member place (Member.Application prim) word.now).notes) }
     ensures meaning { IfOk result (λ m. m ≡ (spec.application_member place (Member.Application prim) word.now).meaning) }
 {
@@ -179,7 +221,13 @@ fn application_id(alloc: Global, into: &mut Notes, place: Place, prim: Primitive
 }
 
 /// `id` of an application, which is no value itself; P09 on any other name behind a member of the library.
-pub fn application_member(alloc: Global, into: &mut Notes, place: Place, member: Member, word: &Word) -> Result<Meaning, Memory>
+pub fn application_member(
+    alloc: Global,
+    into: &mut Notes,
+    place: Place,
+    member: Member,
+    word: &Word,
+) -> Result<Meaning, Memory>
     ensures told { OnOk result (into.new ≡ into.old ++ (spec.application_member place member word.now).notes) }
     ensures meaning { IfOk result (λ m. m ≡ (spec.application_member place member word.now).meaning) }
 {

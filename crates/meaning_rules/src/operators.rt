@@ -68,7 +68,14 @@ pub fn has_between(operator: BinaryOperator, ty: &SourceType) -> bool
     }
 }
 
-fn operated(alloc: Global, into: &mut Notes, place: Place, a: Typed, b: Typed, operation: Option<Operation>) -> Result<Meaning, Memory>
+fn operated(
+    alloc: Global,
+    into: &mut Notes,
+    place: Place,
+    a: Typed,
+    b: Typed,
+    operation: Option<Operation>,
+) -> Result<Meaning, Memory>
     ensures told { OnOk result (into.new ≡ into.old ++ (spec.operated place a b operation).notes) }
     ensures meaning { IfOk result (λ m. m ≡ (spec.operated place a b operation).meaning) }
 {
@@ -94,7 +101,14 @@ fn one_holds(alloc: Global, place: Place, a: Typed, b: Typed) -> Result<Meaning,
     Ok(scalar_value(place, Scalar::Bool, ExprKind::Or(left, right)))
 }
 
-fn done(alloc: Global, into: &mut Notes, place: Place, operator: Operator, a: Typed, b: Typed) -> Result<Meaning, Memory>
+fn done(
+    alloc: Global,
+    into: &mut Notes,
+    place: Place,
+    operator: Operator,
+    a: Typed,
+    b: Typed,
+) -> Result<Meaning, Memory>
     ensures told { OnOk result (into.new ≡ into.old ++ (spec.operated place a b (spec.operation_at operator (types.scalar_of a.ty))).notes) }
     ensures meaning { IfOk result (λ m. m ≡ (spec.operated place a b (spec.operation_at operator (types.scalar_of a.ty))).meaning) }
 {
@@ -102,7 +116,14 @@ fn done(alloc: Global, into: &mut Notes, place: Place, operator: Operator, a: Ty
     operated(alloc, into, place, a, b, operation)
 }
 
-fn joined_by(alloc: Global, into: &mut Notes, place: Place, operator: BinaryOperator, a: Typed, b: Typed) -> Result<Meaning, Memory>
+fn joined_by(
+    alloc: Global,
+    into: &mut Notes,
+    place: Place,
+    operator: BinaryOperator,
+    a: Typed,
+    b: Typed,
+) -> Result<Meaning, Memory>
     ensures told { OnOk result (into.new ≡ into.old ++ (spec.joined_by place (betweens.between_of operator) a b).notes) }
     ensures meaning { IfOk result (λ m. m ≡ (spec.joined_by place (betweens.between_of operator) a b).meaning) }
 {
@@ -114,7 +135,14 @@ fn joined_by(alloc: Global, into: &mut Notes, place: Place, operator: BinaryOper
     }
 }
 
-fn of_one_type(alloc: Global, into: &mut Notes, place: Place, operator: BinaryOperator, a: Typed, b: Typed) -> Result<Meaning, Memory>
+fn of_one_type(
+    alloc: Global,
+    into: &mut Notes,
+    place: Place,
+    operator: BinaryOperator,
+    a: Typed,
+    b: Typed,
+) -> Result<Meaning, Memory>
     ensures told { OnOk result (into.new ≡ into.old ++ (betweens.of_one_type place (betweens.between_of operator) a b).notes) }
     ensures meaning { IfOk result (λ m. m ≡ (betweens.of_one_type place (betweens.between_of operator) a b).meaning) }
 {
@@ -126,7 +154,14 @@ fn of_one_type(alloc: Global, into: &mut Notes, place: Place, operator: BinaryOp
 }
 
 /// Two values with an operator between: P14 at the operation where the left type hasn't it, else at the right operand where it has another type.
-pub fn two_values(alloc: Global, into: &mut Notes, place: Place, operator: BinaryOperator, a: Typed, b: Typed) -> Result<Meaning, Memory>
+pub fn two_values(
+    alloc: Global,
+    into: &mut Notes,
+    place: Place,
+    operator: BinaryOperator,
+    a: Typed,
+    b: Typed,
+) -> Result<Meaning, Memory>
     ensures told { OnOk result (into.new ≡ into.old ++ (spec.two_values place (betweens.between_of operator) a b).notes) }
     ensures meaning { IfOk result (λ m. m ≡ (spec.two_values place (betweens.between_of operator) a b).meaning) }
 {
@@ -137,7 +172,14 @@ pub fn two_values(alloc: Global, into: &mut Notes, place: Place, operator: Binar
     }
 }
 
-fn with_left(alloc: Global, into: &mut Notes, place: Place, operator: BinaryOperator, a: Option<Typed>, b: Typed) -> Result<Meaning, Memory>
+fn with_left(
+    alloc: Global,
+    into: &mut Notes,
+    place: Place,
+    operator: BinaryOperator,
+    a: Option<Typed>,
+    b: Typed,
+) -> Result<Meaning, Memory>
     ensures told { OnOk result (into.new ≡ into.old ++ (spec.with_left place (betweens.between_of operator) a b).notes) }
     ensures meaning { IfOk result (λ m. m ≡ (spec.with_left place (betweens.between_of operator) a b).meaning) }
 {
@@ -147,7 +189,14 @@ fn with_left(alloc: Global, into: &mut Notes, place: Place, operator: BinaryOper
     }
 }
 
-fn with_right(alloc: Global, into: &mut Notes, place: Place, operator: BinaryOperator, a: Typed, b: Option<Typed>) -> Result<Meaning, Memory>
+fn with_right(
+    alloc: Global,
+    into: &mut Notes,
+    place: Place,
+    operator: BinaryOperator,
+    a: Typed,
+    b: Option<Typed>,
+) -> Result<Meaning, Memory>
     ensures told { OnOk result (into.new ≡ into.old ++ (spec.with_right place (betweens.between_of operator) a b).notes) }
     ensures meaning { IfOk result (λ m. m ≡ (spec.with_right place (betweens.between_of operator) a b).meaning) }
 {
@@ -158,7 +207,15 @@ fn with_right(alloc: Global, into: &mut Notes, place: Place, operator: BinaryOpe
 }
 
 /// A literal on the left takes the type of the value beside it.
-fn left_literal(alloc: Global, into: &mut Notes, place: Place, operator: BinaryOperator, at: Place, lit: Lit, b: Typed) -> Result<Meaning, Memory>
+fn left_literal(
+    alloc: Global,
+    into: &mut Notes,
+    place: Place,
+    operator: BinaryOperator,
+    at: Place,
+    lit: Lit,
+    b: Typed,
+) -> Result<Meaning, Memory>
     ensures told { OnOk result (into.new ≡ into.old ++ (spec.two_operands place (betweens.between_of operator) (Operand.Literal at lit) (Operand.Value b)).notes) }
     ensures meaning { IfOk result (λ m. m ≡ (spec.two_operands place (betweens.between_of operator) (Operand.Literal at lit) (Operand.Value b)).meaning) }
 {
@@ -166,7 +223,15 @@ fn left_literal(alloc: Global, into: &mut Notes, place: Place, operator: BinaryO
     with_left(alloc, into, place, operator, a, b)
 }
 
-fn right_of(alloc: Global, into: &mut Notes, place: Place, operator: BinaryOperator, a: Typed, at: Place, lit: Lit) -> Result<Meaning, Memory>
+fn right_of(
+    alloc: Global,
+    into: &mut Notes,
+    place: Place,
+    operator: BinaryOperator,
+    a: Typed,
+    at: Place,
+    lit: Lit,
+) -> Result<Meaning, Memory>
     ensures told { OnOk result (into.new ≡ into.old ++ (spec.right_literal place (betweens.between_of operator) a (meanings.literal (hopes.Wants a.ty) at lit)).notes) }
     ensures meaning { IfOk result (λ m. m ≡ (spec.right_literal place (betweens.between_of operator) a (meanings.literal (hopes.Wants a.ty) at lit)).meaning) }
 {
@@ -175,7 +240,15 @@ fn right_of(alloc: Global, into: &mut Notes, place: Place, operator: BinaryOpera
 }
 
 /// A literal on the right takes the type of the value beside it.
-fn right_literal(alloc: Global, into: &mut Notes, place: Place, operator: BinaryOperator, a: Typed, at: Place, lit: Lit) -> Result<Meaning, Memory>
+fn right_literal(
+    alloc: Global,
+    into: &mut Notes,
+    place: Place,
+    operator: BinaryOperator,
+    a: Typed,
+    at: Place,
+    lit: Lit,
+) -> Result<Meaning, Memory>
     ensures told { OnOk result (into.new ≡ into.old ++ (spec.two_operands place (betweens.between_of operator) (Operand.Value a) (Operand.Literal at lit)).notes) }
     ensures meaning { IfOk result (λ m. m ≡ (spec.two_operands place (betweens.between_of operator) (Operand.Value a) (Operand.Literal at lit)).meaning) }
 {
@@ -186,7 +259,14 @@ fn right_literal(alloc: Global, into: &mut Notes, place: Place, operator: Binary
     }
 }
 
-fn value_and(alloc: Global, into: &mut Notes, place: Place, operator: BinaryOperator, a: Typed, b: Operand) -> Result<Meaning, Memory>
+fn value_and(
+    alloc: Global,
+    into: &mut Notes,
+    place: Place,
+    operator: BinaryOperator,
+    a: Typed,
+    b: Operand,
+) -> Result<Meaning, Memory>
     ensures told { OnOk result (into.new ≡ into.old ++ (spec.two_operands place (betweens.between_of operator) (Operand.Value a) b).notes) }
     ensures meaning { IfOk result (λ m. m ≡ (spec.two_operands place (betweens.between_of operator) (Operand.Value a) b).meaning) }
 {
@@ -197,7 +277,15 @@ fn value_and(alloc: Global, into: &mut Notes, place: Place, operator: BinaryOper
     }
 }
 
-fn literal_and(alloc: Global, into: &mut Notes, place: Place, operator: BinaryOperator, at: Place, lit: Lit, b: Operand) -> Result<Meaning, Memory>
+fn literal_and(
+    alloc: Global,
+    into: &mut Notes,
+    place: Place,
+    operator: BinaryOperator,
+    at: Place,
+    lit: Lit,
+    b: Operand,
+) -> Result<Meaning, Memory>
     ensures told { OnOk result (into.new ≡ into.old ++ (spec.two_operands place (betweens.between_of operator) (Operand.Literal at lit) b).notes) }
     ensures meaning { IfOk result (λ m. m ≡ (spec.two_operands place (betweens.between_of operator) (Operand.Literal at lit) b).meaning) }
 {
@@ -209,7 +297,14 @@ fn literal_and(alloc: Global, into: &mut Notes, place: Place, operator: BinaryOp
 }
 
 /// A literal takes the type of what stands beside it; P14 on two literals.
-fn two_operands(alloc: Global, into: &mut Notes, place: Place, operator: BinaryOperator, a: Operand, b: Operand) -> Result<Meaning, Memory>
+fn two_operands(
+    alloc: Global,
+    into: &mut Notes,
+    place: Place,
+    operator: BinaryOperator,
+    a: Operand,
+    b: Operand,
+) -> Result<Meaning, Memory>
     ensures told { OnOk result (into.new ≡ into.old ++ (spec.two_operands place (betweens.between_of operator) a b).notes) }
     ensures meaning { IfOk result (λ m. m ≡ (spec.two_operands place (betweens.between_of operator) a b).meaning) }
 {
@@ -243,7 +338,15 @@ fn contained(into: &mut Notes, right: Place, a: &Operand, b: &Operand) -> Result
 }
 
 /// Two operands with an operator between, at `place`; `right` is where the right one stands. P14 where the types have it not.
-pub fn between_operands(alloc: Global, into: &mut Notes, place: Place, right: Place, operator: BinaryOperator, a: Operand, b: Operand) -> Result<Meaning, Memory>
+pub fn between_operands(
+    alloc: Global,
+    into: &mut Notes,
+    place: Place,
+    right: Place,
+    operator: BinaryOperator,
+    a: Operand,
+    b: Operand,
+) -> Result<Meaning, Memory>
     ensures told { OnOk result (into.new ≡ into.old ++ (spec.between_operands place right (betweens.between_of operator) a b).notes) }
     ensures meaning { IfOk result (λ m. m ≡ (spec.between_operands place right (betweens.between_of operator) a b).meaning) }
 {
@@ -253,7 +356,13 @@ pub fn between_operands(alloc: Global, into: &mut Notes, place: Place, right: Pl
     }
 }
 
-fn one_operated(alloc: Global, into: &mut Notes, place: Place, a: Typed, operation: Option<Operation>) -> Result<Meaning, Memory>
+fn one_operated(
+    alloc: Global,
+    into: &mut Notes,
+    place: Place,
+    a: Typed,
+    operation: Option<Operation>,
+) -> Result<Meaning, Memory>
     ensures told { OnOk result (into.new ≡ into.old ++ (spec.one_operated place a operation).notes) }
     ensures meaning { IfOk result (λ m. m ≡ (spec.one_operated place a operation).meaning) }
 {
@@ -300,7 +409,13 @@ fn inverse(alloc: Global, into: &mut Notes, place: Place, a: Typed) -> Result<Me
     one_operated(alloc, into, place, a, operation)
 }
 
-fn unary_value(alloc: Global, into: &mut Notes, place: Place, operator: UnaryOp, a: Typed) -> Result<Meaning, Memory>
+fn unary_value(
+    alloc: Global,
+    into: &mut Notes,
+    place: Place,
+    operator: UnaryOp,
+    a: Typed,
+) -> Result<Meaning, Memory>
     ensures told { OnOk result (into.new ≡ into.old ++ (spec.unary_value place operator a).notes) }
     ensures meaning { IfOk result (λ m. m ≡ (spec.unary_value place operator a).meaning) }
 {
@@ -312,7 +427,12 @@ fn unary_value(alloc: Global, into: &mut Notes, place: Place, operator: UnaryOp,
     }
 }
 
-fn unary_literal(into: &mut Notes, place: Place, operator: UnaryOp, at: Place) -> Result<Meaning, Memory>
+fn unary_literal(
+    into: &mut Notes,
+    place: Place,
+    operator: UnaryOp,
+    at: Place,
+) -> Result<Meaning, Memory>
     ensures told { OnOk result (into.new ≡ into.old ++ (spec.unary_literal place operator at).notes) }
     ensures meaning { IfOk result (λ m. m ≡ (spec.unary_literal place operator at).meaning) }
 {
@@ -325,7 +445,13 @@ fn unary_literal(into: &mut Notes, place: Place, operator: UnaryOp, at: Place) -
 }
 
 /// An operator before an operand: no type has `+` and `-` there, and P14 on a literal.
-pub fn unary_operand(alloc: Global, into: &mut Notes, place: Place, operator: UnaryOp, a: Operand) -> Result<Meaning, Memory>
+pub fn unary_operand(
+    alloc: Global,
+    into: &mut Notes,
+    place: Place,
+    operator: UnaryOp,
+    a: Operand,
+) -> Result<Meaning, Memory>
     ensures told { OnOk result (into.new ≡ into.old ++ (spec.unary_operand place operator a).notes) }
     ensures meaning { IfOk result (λ m. m ≡ (spec.unary_operand place operator a).meaning) }
 {

@@ -107,7 +107,12 @@ fn range_of_two(into: &mut Notes, start: Known, stop: Known) -> Result<Meaning, 
     Ok(range_from(start, stop, Some(1)))
 }
 
-fn range_of_three(into: &mut Notes, start: Known, stop: Known, step: Known) -> Result<Meaning, Memory>
+fn range_of_three(
+    into: &mut Notes,
+    start: Known,
+    stop: Known,
+    step: Known,
+) -> Result<Meaning, Memory>
     ensures told { OnOk result (into.new ≡ into.old ++ (spec.range_parts (spec.bound start) (spec.bound stop) (spec.step_of step)).notes) }
     ensures meaning { IfOk result (λ m. m ≡ (spec.range_parts (spec.bound start) (spec.bound stop) (spec.step_of step)).meaning) }
 {
@@ -163,7 +168,11 @@ fn by_count(mut known: Vec<Known>) -> Ranged
 
 #[tactic(auto, using(crate::proofs::RangeLaws::call_range_ranged))]
 /// A call of `urange`: its end, its start and its end, or its start, its end and its step; P15 on another number of arguments.
-pub(crate) fn call_range(into: &mut Notes, place: Place, known: Vec<Known>) -> Result<Meaning, Memory>
+pub(crate) fn call_range(
+    into: &mut Notes,
+    place: Place,
+    known: Vec<Known>,
+) -> Result<Meaning, Memory>
     ensures told { OnOk result (into.new ≡ into.old ++ (spec.call_range place known.items).notes) }
     ensures meaning { IfOk result (λ m. m ≡ (spec.call_range place known.items).meaning) }
 {

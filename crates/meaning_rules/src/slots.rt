@@ -75,7 +75,13 @@ fn positional(signature: &Signature, i: usize, used: &Used, place: Place) -> Slo
     }
 }
 
-fn function_slot(signature: &Signature, i: usize, used: &Used, key: Option<&Word>, place: Place) -> Slot
+fn function_slot(
+    signature: &Signature,
+    i: usize,
+    used: &Used,
+    key: Option<&Word>,
+    place: Place,
+) -> Slot
     ensures { result ≡ spec.function_slot signature.now i used.now (option_copied key) place }
 {
     match key {
@@ -98,7 +104,13 @@ fn library_slot(i: usize, key: Option<&Word>) -> Slot
     }
 }
 
-fn slot_of(function: Option<&Signature>, i: usize, used: &Used, key: Option<&Word>, place: Place) -> Slot
+fn slot_of(
+    function: Option<&Signature>,
+    i: usize,
+    used: &Used,
+    key: Option<&Word>,
+    place: Place,
+) -> Slot
     ensures { result ≡ callees.slot_of (option_copied function) i used.now (option_copied key) place }
 {
     match function {
@@ -109,7 +121,14 @@ fn slot_of(function: Option<&Signature>, i: usize, used: &Used, key: Option<&Wor
 
 #[tactic(auto, using(crate::proofs::CalleeLaws::slot_same))]
 /// Which parameter the argument of number `i` in reading order, at `place`, is for. What can't be called, or is not known, asks nothing.
-pub fn slot_for(functions: &List<Signature>, callee: Callee, i: usize, used: &Used, key: Option<&Word>, place: Place) -> Slot
+pub fn slot_for(
+    functions: &List<Signature>,
+    callee: Callee,
+    i: usize,
+    used: &Used,
+    key: Option<&Word>,
+    place: Place,
+) -> Slot
     ensures { result ≡ spec.slot (callees.meant functions.now callee) i used.now (option_copied key) place }
 {
     match callee {

@@ -9,7 +9,9 @@ ghost use Rattle.meaning_rules.specs.Indexes as indexes;
 use crate::meaning::{Hope, Lit, Meaning, Typed};
 use crate::operand::{End, Operand};
 use crate::operators::is_missing;
-use crate::telling::{breaks, expr_in, node, of_one, of_two, scalar_value, small, three_parts, two_parts};
+use crate::telling::{
+    breaks, expr_in, node, of_one, of_two, scalar_value, small, three_parts, two_parts,
+};
 use crate::types::{copied, scalar_of, tuple_parts};
 use crate::values::{fits_some, settled_as};
 use algopy_library::Scalar;
@@ -49,7 +51,12 @@ pub fn index_hope(base: &Operand) -> Hope
     }
 }
 
-fn byte_at(alloc: Global, place: Place, base: Typed, index: Option<Typed>) -> Result<Meaning, Memory>
+fn byte_at(
+    alloc: Global,
+    place: Place,
+    base: Typed,
+    index: Option<Typed>,
+) -> Result<Meaning, Memory>
     ensures { IfOk result (λ m. m ≡ (spec.byte_at place base index).meaning) }
 {
     match index {
@@ -58,7 +65,13 @@ fn byte_at(alloc: Global, place: Place, base: Typed, index: Option<Typed>) -> Re
     }
 }
 
-fn byte_index(alloc: Global, into: &mut Notes, place: Place, base: Typed, index: Operand) -> Result<Meaning, Memory>
+fn byte_index(
+    alloc: Global,
+    into: &mut Notes,
+    place: Place,
+    base: Typed,
+    index: Operand,
+) -> Result<Meaning, Memory>
     ensures told { OnOk result (into.new ≡ into.old ++ (spec.byte_index place base (spec.a_number index)).notes) }
     ensures meaning { IfOk result (λ m. m ≡ (spec.byte_index place base (spec.a_number index)).meaning) }
 {
@@ -93,7 +106,13 @@ fn item_type(alloc: Global, ty: &SourceType, number: u64) -> Result<Option<Sourc
     }
 }
 
-fn item_node(alloc: Global, place: Place, base: Typed, number: u64, ty: SourceType) -> Result<Meaning, Memory>
+fn item_node(
+    alloc: Global,
+    place: Place,
+    base: Typed,
+    number: u64,
+    ty: SourceType,
+) -> Result<Meaning, Memory>
     ensures { IfOk result (λ m. m ≡ (meanings.node place ty (ExprKind.Item base.expr (Index.Fixed number))).meaning) }
 {
     let number = small(number)?;
@@ -101,7 +120,14 @@ fn item_node(alloc: Global, place: Place, base: Typed, number: u64, ty: SourceTy
     node(alloc, place, ty, ExprKind::Item(base, Index::Fixed(number)))
 }
 
-fn number_index(alloc: Global, into: &mut Notes, place: Place, at: Place, base: Typed, number: u64) -> Result<Meaning, Memory>
+fn number_index(
+    alloc: Global,
+    into: &mut Notes,
+    place: Place,
+    at: Place,
+    base: Typed,
+    number: u64,
+) -> Result<Meaning, Memory>
     ensures told { OnOk result (into.new ≡ into.old ++ (indexes.number_index place at base (types.tuple_parts base.ty) number).notes) }
     ensures meaning { IfOk result (λ m. m ≡ (indexes.number_index place at base (types.tuple_parts base.ty) number).meaning) }
 {
@@ -111,7 +137,14 @@ fn number_index(alloc: Global, into: &mut Notes, place: Place, at: Place, base: 
     }
 }
 
-fn literal_index(alloc: Global, into: &mut Notes, place: Place, at: Place, base: Typed, lit: Lit) -> Result<Meaning, Memory>
+fn literal_index(
+    alloc: Global,
+    into: &mut Notes,
+    place: Place,
+    at: Place,
+    base: Typed,
+    lit: Lit,
+) -> Result<Meaning, Memory>
     ensures told { OnOk result (into.new ≡ into.old ++ (indexes.literal_index place at base (types.tuple_parts base.ty) lit).notes) }
     ensures meaning { IfOk result (λ m. m ≡ (indexes.literal_index place at base (types.tuple_parts base.ty) lit).meaning) }
 {
@@ -122,7 +155,14 @@ fn literal_index(alloc: Global, into: &mut Notes, place: Place, at: Place, base:
 }
 
 /// An index of what is no Bytes: P14 on what is no tuple, and on an index of a tuple that is no number literal in range.
-fn tuple_index(alloc: Global, into: &mut Notes, place: Place, at: Place, base: Typed, index: Operand) -> Result<Meaning, Memory>
+fn tuple_index(
+    alloc: Global,
+    into: &mut Notes,
+    place: Place,
+    at: Place,
+    base: Typed,
+    index: Operand,
+) -> Result<Meaning, Memory>
     ensures told { OnOk result (into.new ≡ into.old ++ (indexes.tuple_index place at base (types.tuple_parts base.ty) index).notes) }
     ensures meaning { IfOk result (λ m. m ≡ (indexes.tuple_index place at base (types.tuple_parts base.ty) index).meaning) }
 {
@@ -134,7 +174,15 @@ fn tuple_index(alloc: Global, into: &mut Notes, place: Place, at: Place, base: T
 }
 
 #[tactic(auto, using(crate::proofs::Indexed::index_same))]
-fn index_as(alloc: Global, into: &mut Notes, place: Place, at: Place, base: Typed, scalar: Option<Scalar>, index: Operand) -> Result<Meaning, Memory>
+fn index_as(
+    alloc: Global,
+    into: &mut Notes,
+    place: Place,
+    at: Place,
+    base: Typed,
+    scalar: Option<Scalar>,
+    index: Operand,
+) -> Result<Meaning, Memory>
     ensures told { OnOk result (into.new ≡ into.old ++ (spec.index_of place at base scalar index).notes) }
     ensures meaning { IfOk result (λ m. m ≡ (spec.index_of place at base scalar index).meaning) }
 {
@@ -145,7 +193,14 @@ fn index_as(alloc: Global, into: &mut Notes, place: Place, at: Place, base: Type
 }
 
 /// An index at `at` of a value, at `place`: a number where that is Bytes, a number literal in range where it is a tuple; P14 on any other.
-pub fn index_when(alloc: Global, into: &mut Notes, place: Place, at: Place, base: Option<Typed>, index: Operand) -> Result<Meaning, Memory>
+pub fn index_when(
+    alloc: Global,
+    into: &mut Notes,
+    place: Place,
+    at: Place,
+    base: Option<Typed>,
+    index: Operand,
+) -> Result<Meaning, Memory>
     ensures told { OnOk result (into.new ≡ into.old ++ (spec.index_when place at base index).notes) }
     ensures meaning { IfOk result (λ m. m ≡ (spec.index_when place at base index).meaning) }
 {
@@ -168,21 +223,39 @@ fn slice_from(alloc: Global, place: Place, base: Typed, start: Expr) -> Result<M
     ensures { IfOk result (λ m. m ≡ (spec.sliced place base (spec.slice_prim (End.Number start) End.Absent)).meaning) }
 {
     let parts = two_parts(alloc, expr_in(base), start)?;
-    Ok(scalar_value(place, Scalar::Bytes, ExprKind::Prim(Primitive::SliceFrom, parts)))
+    Ok(scalar_value(
+        place,
+        Scalar::Bytes,
+        ExprKind::Prim(Primitive::SliceFrom, parts),
+    ))
 }
 
 fn slice_to(alloc: Global, place: Place, base: Typed, stop: Expr) -> Result<Meaning, Memory>
     ensures { IfOk result (λ m. m ≡ (spec.sliced place base (spec.slice_prim End.Absent (End.Number stop))).meaning) }
 {
     let parts = two_parts(alloc, expr_in(base), stop)?;
-    Ok(scalar_value(place, Scalar::Bytes, ExprKind::Prim(Primitive::SliceTo, parts)))
+    Ok(scalar_value(
+        place,
+        Scalar::Bytes,
+        ExprKind::Prim(Primitive::SliceTo, parts),
+    ))
 }
 
-fn slice_between(alloc: Global, place: Place, base: Typed, start: Expr, stop: Expr) -> Result<Meaning, Memory>
+fn slice_between(
+    alloc: Global,
+    place: Place,
+    base: Typed,
+    start: Expr,
+    stop: Expr,
+) -> Result<Meaning, Memory>
     ensures { IfOk result (λ m. m ≡ (spec.sliced place base (spec.slice_prim (End.Number start) (End.Number stop))).meaning) }
 {
     let parts = three_parts(alloc, expr_in(base), start, stop)?;
-    Ok(scalar_value(place, Scalar::Bytes, ExprKind::Prim(Primitive::SliceBetween, parts)))
+    Ok(scalar_value(
+        place,
+        Scalar::Bytes,
+        ExprKind::Prim(Primitive::SliceBetween, parts),
+    ))
 }
 
 fn sliced_to(alloc: Global, place: Place, base: Typed, stop: End) -> Result<Meaning, Memory>
@@ -195,7 +268,13 @@ fn sliced_to(alloc: Global, place: Place, base: Typed, stop: End) -> Result<Mean
     }
 }
 
-fn sliced_from(alloc: Global, place: Place, base: Typed, start: Expr, stop: End) -> Result<Meaning, Memory>
+fn sliced_from(
+    alloc: Global,
+    place: Place,
+    base: Typed,
+    start: Expr,
+    stop: End,
+) -> Result<Meaning, Memory>
     ensures { IfOk result (λ m. m ≡ (spec.sliced place base (spec.slice_prim (End.Number start) stop)).meaning) }
 {
     match stop {
@@ -205,7 +284,13 @@ fn sliced_from(alloc: Global, place: Place, base: Typed, start: Expr, stop: End)
     }
 }
 
-fn sliced(alloc: Global, place: Place, base: Typed, start: End, stop: End) -> Result<Meaning, Memory>
+fn sliced(
+    alloc: Global,
+    place: Place,
+    base: Typed,
+    start: End,
+    stop: End,
+) -> Result<Meaning, Memory>
     ensures { IfOk result (λ m. m ≡ (spec.sliced place base (spec.slice_prim start stop)).meaning) }
 {
     match start {
@@ -236,7 +321,14 @@ fn no_slice(into: &mut Notes, place: Place, start: &End, stop: &End) -> Result<M
     }
 }
 
-fn slice_of(alloc: Global, into: &mut Notes, place: Place, base: Typed, start: End, stop: End) -> Result<Meaning, Memory>
+fn slice_of(
+    alloc: Global,
+    into: &mut Notes,
+    place: Place,
+    base: Typed,
+    start: End,
+    stop: End,
+) -> Result<Meaning, Memory>
     ensures told { OnOk result (into.new ≡ into.old ++ (spec.slice_of place base (types.scalar_of base.ty) start stop).notes) }
     ensures meaning { IfOk result (λ m. m ≡ (spec.slice_of place base (types.scalar_of base.ty) start stop).meaning) }
 {
@@ -247,7 +339,14 @@ fn slice_of(alloc: Global, into: &mut Notes, place: Place, base: Typed, start: E
 }
 
 /// A slice of a value, at `place`; P14 on a slice of anything but Bytes.
-pub fn slice_when(alloc: Global, into: &mut Notes, place: Place, base: Option<Typed>, start: End, stop: End) -> Result<Meaning, Memory>
+pub fn slice_when(
+    alloc: Global,
+    into: &mut Notes,
+    place: Place,
+    base: Option<Typed>,
+    start: End,
+    stop: End,
+) -> Result<Meaning, Memory>
     ensures told { OnOk result (into.new ≡ into.old ++ (spec.slice_when place base start stop).notes) }
     ensures meaning { IfOk result (λ m. m ≡ (spec.slice_when place base start stop).meaning) }
 {
@@ -279,7 +378,11 @@ pub fn end_of_bytes(into: &mut Notes, operand: Operand) -> Result<End, Memory>
 pub fn other_end(operand: &Operand) -> End
     ensures { result ≡ (spec.other_end operand.now).end }
 {
-    if is_missing(operand) { End::Broken } else { End::Absent }
+    if is_missing(operand) {
+        End::Broken
+    } else {
+        End::Absent
+    }
 }
 
 /// Whether a value is Bytes.

@@ -30,7 +30,11 @@ pub(crate) fn breaks(into: &mut Notes, rule: Rule, place: Place) -> Result<Meani
 }
 
 /// A broken rule in place of a value.
-pub(crate) fn value_breaks(into: &mut Notes, rule: Rule, place: Place) -> Result<Option<Typed>, Memory>
+pub(crate) fn value_breaks(
+    into: &mut Notes,
+    rule: Rule,
+    place: Place,
+) -> Result<Option<Typed>, Memory>
     ensures told { OnOk result (into.new ≡ into.old ++ (spec.value_breaks rule place).notes) }
     ensures typed { IfOk result (λ t. t ≡ (spec.value_breaks rule place).typed) }
 {
@@ -39,7 +43,6 @@ pub(crate) fn value_breaks(into: &mut Notes, rule: Rule, place: Place) -> Result
 }
 
 /// A typed expression of one value.
-#[tactic(auto, using(crate::proofs::Equalities::types))]
 pub(crate) fn scalar_node(place: Place, scalar: Scalar, kind: ExprKind) -> Typed
     ensures { result ≡ spec.a_node place (SourceType.Scalar scalar) kind }
 {
@@ -61,7 +64,12 @@ pub(crate) fn scalar_value(place: Place, scalar: Scalar, kind: ExprKind) -> Mean
 }
 
 /// An expression that means a typed one.
-pub(crate) fn node(alloc: Global, place: Place, ty: SourceType, kind: ExprKind) -> Result<Meaning, Memory>
+pub(crate) fn node(
+    alloc: Global,
+    place: Place,
+    ty: SourceType,
+    kind: ExprKind,
+) -> Result<Meaning, Memory>
     ensures { IfOk result (λ m. m ≡ (spec.node place ty kind).meaning) }
 {
     let below = tree_type(alloc, &ty)?;
@@ -121,7 +129,13 @@ pub(crate) fn three_parts(alloc: Global, a: Expr, b: Expr, c: Expr) -> Result<Ex
 }
 
 /// What the library does with one value.
-pub(crate) fn of_one(alloc: Global, place: Place, scalar: Scalar, prim: Primitive, a: Typed) -> Result<Meaning, Memory>
+pub(crate) fn of_one(
+    alloc: Global,
+    place: Place,
+    scalar: Scalar,
+    prim: Primitive,
+    a: Typed,
+) -> Result<Meaning, Memory>
     ensures { IfOk result (λ m. m ≡ (spec.node place (SourceType.Scalar scalar) (ExprKind.Prim prim (a.expr ∷ []))).meaning) }
 {
     let parts = one_part(alloc, expr_in(a))?;
@@ -129,7 +143,14 @@ pub(crate) fn of_one(alloc: Global, place: Place, scalar: Scalar, prim: Primitiv
 }
 
 /// What the library does with two values.
-pub(crate) fn of_two(alloc: Global, place: Place, scalar: Scalar, prim: Primitive, a: Typed, b: Typed) -> Result<Meaning, Memory>
+pub(crate) fn of_two(
+    alloc: Global,
+    place: Place,
+    scalar: Scalar,
+    prim: Primitive,
+    a: Typed,
+    b: Typed,
+) -> Result<Meaning, Memory>
     ensures { IfOk result (λ m. m ≡ (spec.node place (SourceType.Scalar scalar) (ExprKind.Prim prim (a.expr ∷ b.expr ∷ []))).meaning) }
 {
     let parts = two_parts(alloc, expr_in(a), expr_in(b))?;

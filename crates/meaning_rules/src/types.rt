@@ -10,7 +10,6 @@ use source_names::SourceType;
 use std::alloc::Global;
 
 /// The type's scalar, if it is one.
-#[tactic(auto, using(crate::proofs::Equalities::types))]
 pub(crate) fn scalar_of(ty: &SourceType) -> Option<Scalar>
     ensures { result ≡ spec.scalar_of ty.now }
 {
@@ -22,7 +21,6 @@ pub(crate) fn scalar_of(ty: &SourceType) -> Option<Scalar>
 }
 
 /// Whether it is what a function without a result gives.
-#[tactic(auto, using(crate::proofs::Equalities::types))]
 pub(crate) fn is_nothing(ty: &SourceType) -> bool
     ensures { result ≡ spec.is_nothing ty.now }
 {
@@ -34,7 +32,6 @@ pub(crate) fn is_nothing(ty: &SourceType) -> bool
 }
 
 /// The types of a tuple's parts.
-#[tactic(auto, using(crate::proofs::Equalities::types))]
 pub(crate) fn tuple_parts(ty: &SourceType) -> Option<&[SourceType]>
     ensures { MatchOption result (spec.tuple_parts ty.now ≡ None) (λ ts. spec.tuple_parts ty.now ≡ Some ts.now) }
 {
@@ -58,7 +55,6 @@ pub(crate) fn typed_scalar(scalar: Scalar) -> Ty
 }
 
 /// The type of typed trees for a type.
-#[tactic(auto, using(crate::proofs::Equalities::types))]
 #[cycle(typed)]
 pub(crate) fn tree_type(alloc: Global, ty: &SourceType) -> Result<Ty, Memory>
     ensures { IfOk result (λ t. t ≡ spec.typed ty.now) }
@@ -66,7 +62,10 @@ pub(crate) fn tree_type(alloc: Global, ty: &SourceType) -> Result<Ty, Memory>
     match ty {
         SourceType::Scalar(scalar) => Ok(typed_scalar(*scalar)),
         SourceType::Nothing => Ok(Ty::Nothing),
-        SourceType::Tuple(parts) => Ok(Ty::Tuple(tree_types(alloc, parts.as_slice())?)),
+        SourceType::Tuple(below) => {
+            let parts = tree_types(alloc, below.as_slice())?;
+            Ok(Ty::Tuple(parts))
+        }
     }
 }
 
@@ -76,7 +75,8 @@ fn tree_types(alloc: Global, tys: &[SourceType]) -> Result<Tys, Memory>
 {
     let mut all = List::new(alloc);
     for ty in tys {
-        all.push(tree_type(alloc, ty)?)?;
+        let one = tree_type(alloc, ty)?;
+        all.push(one)?;
     }
     Ok(all)
 }
@@ -89,7 +89,10 @@ pub fn copied(alloc: Global, ty: &SourceType) -> Result<SourceType, Memory>
     match ty {
         SourceType::Scalar(scalar) => Ok(SourceType::Scalar(*scalar)),
         SourceType::Nothing => Ok(SourceType::Nothing),
-        SourceType::Tuple(parts) => Ok(SourceType::Tuple(all_copied(alloc, parts.as_slice())?)),
+        SourceType::Tuple(below) => {
+            let parts = all_copied(alloc, below.as_slice())?;
+            Ok(SourceType::Tuple(parts))
+        }
     }
 }
 
@@ -99,7 +102,8 @@ fn all_copied(alloc: Global, tys: &[SourceType]) -> Result<List<SourceType>, Mem
 {
     let mut all = List::new(alloc);
     for ty in tys {
-        all.push(copied(alloc, ty)?)?;
+        let one = copied(alloc, ty)?;
+        all.push(one)?;
     }
     Ok(all)
 }

@@ -17,7 +17,12 @@ use puya_base::{Blob, Memory, Place, Rule};
 use std::alloc::Global;
 
 /// What a type that is called without arguments gives: 0, no bytes, an empty text; P15 on the other types.
-pub(crate) fn empty_of(alloc: Global, into: &mut Notes, place: Place, scalar: Scalar) -> Result<Meaning, Memory>
+pub(crate) fn empty_of(
+    alloc: Global,
+    into: &mut Notes,
+    place: Place,
+    scalar: Scalar,
+) -> Result<Meaning, Memory>
     ensures told { OnOk result (into.new ≡ into.old ++ (spec.empty_of place scalar).notes) }
     ensures meaning { IfOk result (λ m. m ≡ (spec.empty_of place scalar).meaning) }
 {
@@ -40,7 +45,13 @@ fn same_lit(scalar: Scalar, lit: &Lit) -> bool
 }
 
 /// A type that is called with a literal of its own: the literal itself, at the place of the call; P14 on another literal.
-fn of_literal(into: &mut Notes, place: Place, scalar: Scalar, at: Place, lit: Lit) -> Result<Meaning, Memory>
+fn of_literal(
+    into: &mut Notes,
+    place: Place,
+    scalar: Scalar,
+    at: Place,
+    lit: Lit,
+) -> Result<Meaning, Memory>
     ensures told { OnOk result (into.new ≡ into.old ++ (spec.of_literal place scalar at lit).notes) }
     ensures meaning { IfOk result (λ m. m ≡ (spec.of_literal place scalar at lit).meaning) }
 {
@@ -51,7 +62,13 @@ fn of_literal(into: &mut Notes, place: Place, scalar: Scalar, at: Place, lit: Li
     }
 }
 
-fn number_of_value(alloc: Global, into: &mut Notes, place: Place, typed: Typed, scalar: Option<Scalar>) -> Result<Meaning, Memory>
+fn number_of_value(
+    alloc: Global,
+    into: &mut Notes,
+    place: Place,
+    typed: Typed,
+    scalar: Option<Scalar>,
+) -> Result<Meaning, Memory>
     ensures told { OnOk result (into.new ≡ into.old ++ (spec.number_of_value place typed scalar).notes) }
     ensures meaning { IfOk result (λ m. m ≡ (spec.number_of_value place typed scalar).meaning) }
 {
@@ -61,7 +78,13 @@ fn number_of_value(alloc: Global, into: &mut Notes, place: Place, typed: Typed, 
     }
 }
 
-fn truth_when(alloc: Global, into: &mut Notes, place: Place, typed: Typed, scalar: Option<Scalar>) -> Result<Meaning, Memory>
+fn truth_when(
+    alloc: Global,
+    into: &mut Notes,
+    place: Place,
+    typed: Typed,
+    scalar: Option<Scalar>,
+) -> Result<Meaning, Memory>
     ensures told { OnOk result (into.new ≡ into.old ++ (spec.truth_when place typed scalar).notes) }
     ensures meaning { IfOk result (λ m. m ≡ (spec.truth_when place typed scalar).meaning) }
 {
@@ -73,7 +96,13 @@ fn truth_when(alloc: Global, into: &mut Notes, place: Place, typed: Typed, scala
 }
 
 /// `UInt64(b)` of a bool, `bool(x)` of what can be a condition; P14 on any other type, which takes a literal alone.
-fn of_value(alloc: Global, into: &mut Notes, place: Place, scalar: Scalar, typed: Typed) -> Result<Meaning, Memory>
+fn of_value(
+    alloc: Global,
+    into: &mut Notes,
+    place: Place,
+    scalar: Scalar,
+    typed: Typed,
+) -> Result<Meaning, Memory>
     ensures told { OnOk result (into.new ≡ into.old ++ (spec.of_value place scalar typed).notes) }
     ensures meaning { IfOk result (λ m. m ≡ (spec.of_value place scalar typed).meaning) }
 {
@@ -86,7 +115,13 @@ fn of_value(alloc: Global, into: &mut Notes, place: Place, scalar: Scalar, typed
 }
 
 /// A type that is called with one argument.
-pub(crate) fn of_known(alloc: Global, into: &mut Notes, place: Place, scalar: Scalar, known: Known) -> Result<Meaning, Memory>
+pub(crate) fn of_known(
+    alloc: Global,
+    into: &mut Notes,
+    place: Place,
+    scalar: Scalar,
+    known: Known,
+) -> Result<Meaning, Memory>
     ensures told { OnOk result (into.new ≡ into.old ++ (spec.of_known place scalar known).notes) }
     ensures meaning { IfOk result (λ m. m ≡ (spec.of_known place scalar known).meaning) }
 {
@@ -98,7 +133,13 @@ pub(crate) fn of_known(alloc: Global, into: &mut Notes, place: Place, scalar: Sc
 
 /// A type that is called: without arguments what is empty, with one what this makes of it; P15 on more.
 #[tactic(auto, using(crate::proofs::Lasts::types_called))]
-pub(crate) fn call_type(alloc: Global, into: &mut Notes, place: Place, scalar: Scalar, mut known: Vec<Known>) -> Result<Meaning, Memory>
+pub(crate) fn call_type(
+    alloc: Global,
+    into: &mut Notes,
+    place: Place,
+    scalar: Scalar,
+    mut known: Vec<Known>,
+) -> Result<Meaning, Memory>
     ensures told { OnOk result (into.new ≡ into.old ++ (spec.call_type place scalar known.items).notes) }
     ensures meaning { IfOk result (λ m. m ≡ (spec.call_type place scalar known.items).meaning) }
 {

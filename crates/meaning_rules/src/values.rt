@@ -6,7 +6,7 @@ ghost use Rattle.meaning_rules.specs.Meanings as spec;
 
 use crate::meaning::{Hope, Lit, Meaning, Typed};
 use crate::operand::Operand;
-use crate::telling::{break_rule, one_part, expr_in, scalar_node, value_breaks};
+use crate::telling::{break_rule, expr_in, one_part, scalar_node, value_breaks};
 use crate::types::{copied, is_nothing, scalar_of};
 use algopy_library::Scalar;
 use awst::{ExprKind, Primitive};
@@ -15,7 +15,7 @@ use puya_base::{Memory, Place, Rule};
 use source_names::{SourceType, same_type};
 use std::alloc::Global;
 
-#[tactic(auto, using(crate::proofs::Equalities::types))]
+#[tactic(auto, using(crate::proofs::Equalities::alike))]
 fn is_scalar(ty: &SourceType, scalar: Scalar) -> bool
     ensures { result ≡ types.same_type ty.now (SourceType.Scalar scalar) }
 {
@@ -48,7 +48,12 @@ pub(crate) fn lit_node(place: Place, lit: Lit) -> Typed
 }
 
 /// A literal where this type is hoped for; P14 where it can't have it.
-pub(crate) fn literal_as(into: &mut Notes, ty: &SourceType, place: Place, lit: Lit) -> Result<Option<Typed>, Memory>
+pub(crate) fn literal_as(
+    into: &mut Notes,
+    ty: &SourceType,
+    place: Place,
+    lit: Lit,
+) -> Result<Option<Typed>, Memory>
     ensures told { OnOk result (into.new ≡ into.old ++ (spec.literal (Hope.Wants ty.now) place lit).notes) }
     ensures typed { IfOk result (λ t. t ≡ (spec.literal (Hope.Wants ty.now) place lit).typed) }
 {
@@ -60,7 +65,12 @@ pub(crate) fn literal_as(into: &mut Notes, ty: &SourceType, place: Place, lit: L
 }
 
 /// A literal takes the type that is hoped for, and has none of its own: P14 where nothing is hoped for, or another type.
-pub fn literal(into: &mut Notes, hope: &Hope, place: Place, lit: Lit) -> Result<Option<Typed>, Memory>
+pub fn literal(
+    into: &mut Notes,
+    hope: &Hope,
+    place: Place,
+    lit: Lit,
+) -> Result<Option<Typed>, Memory>
     ensures told { OnOk result (into.new ≡ into.old ++ (spec.literal hope.now place lit).notes) }
     ensures typed { IfOk result (λ t. t ≡ (spec.literal hope.now place lit).typed) }
 {
@@ -117,7 +127,11 @@ pub fn settled(into: &mut Notes, hope: &Hope, operand: Operand) -> Result<Option
 }
 
 /// The value that a part is, where this type is hoped for.
-pub(crate) fn settled_as(into: &mut Notes, ty: &SourceType, operand: Operand) -> Result<Option<Typed>, Memory>
+pub(crate) fn settled_as(
+    into: &mut Notes,
+    ty: &SourceType,
+    operand: Operand,
+) -> Result<Option<Typed>, Memory>
     ensures told { OnOk result (into.new ≡ into.old ++ (spec.settled (Hope.Wants ty.now) operand).notes) }
     ensures typed { IfOk result (λ t. t ≡ (spec.settled (Hope.Wants ty.now) operand).typed) }
 {
@@ -129,7 +143,12 @@ pub(crate) fn settled_as(into: &mut Notes, ty: &SourceType, operand: Operand) ->
 }
 
 /// What an expression is that has to be a value, where this is hoped for.
-pub fn value(into: &mut Notes, hope: &Hope, place: Place, meaning: Meaning) -> Result<Option<Typed>, Memory>
+pub fn value(
+    into: &mut Notes,
+    hope: &Hope,
+    place: Place,
+    meaning: Meaning,
+) -> Result<Option<Typed>, Memory>
     ensures told { OnOk result (into.new ≡ into.old ++ (spec.value hope.now place (spec.says meaning)).notes) }
     ensures typed { IfOk result (λ t. t ≡ (spec.value hope.now place (spec.says meaning)).typed) }
 {
@@ -149,7 +168,11 @@ pub fn fits_type(into: &mut Notes, ty: &SourceType, typed: Typed) -> Result<Opti
     }
 }
 
-pub(crate) fn fits_some(into: &mut Notes, ty: &SourceType, typed: Option<Typed>) -> Result<Option<Typed>, Memory>
+pub(crate) fn fits_some(
+    into: &mut Notes,
+    ty: &SourceType,
+    typed: Option<Typed>,
+) -> Result<Option<Typed>, Memory>
     ensures told { OnOk result (into.new ≡ into.old ++ (spec.fits_when (Some ty.now) typed).notes) }
     ensures typed { IfOk result (λ t. t ≡ (spec.fits_when (Some ty.now) typed).typed) }
 {
@@ -160,7 +183,11 @@ pub(crate) fn fits_some(into: &mut Notes, ty: &SourceType, typed: Option<Typed>)
 }
 
 /// A value where a type is required, if it is known.
-pub fn fits_when(into: &mut Notes, ty: &Option<SourceType>, typed: Option<Typed>) -> Result<Option<Typed>, Memory>
+pub fn fits_when(
+    into: &mut Notes,
+    ty: &Option<SourceType>,
+    typed: Option<Typed>,
+) -> Result<Option<Typed>, Memory>
     ensures told { OnOk result (into.new ≡ into.old ++ (spec.fits_when ty.now typed).notes) }
     ensures typed { IfOk result (λ t. t ≡ (spec.fits_when ty.now typed).typed) }
 {
@@ -194,7 +221,12 @@ fn truth_some(alloc: Global, typed: Typed) -> Result<Option<Typed>, Memory>
     Ok(Some(truth_of(alloc, typed)?))
 }
 
-fn condition_as(alloc: Global, into: &mut Notes, typed: Typed, scalar: Scalar) -> Result<Option<Typed>, Memory>
+fn condition_as(
+    alloc: Global,
+    into: &mut Notes,
+    typed: Typed,
+    scalar: Scalar,
+) -> Result<Option<Typed>, Memory>
     ensures told { OnOk result (into.new ≡ into.old ++ (spec.condition_at typed (Some scalar)).notes) }
     ensures typed { IfOk result (λ t. t ≡ (spec.condition_at typed (Some scalar)).typed) }
 {
@@ -215,7 +247,11 @@ fn condition_at(alloc: Global, into: &mut Notes, typed: Typed) -> Result<Option<
     }
 }
 
-fn condition_of(alloc: Global, into: &mut Notes, typed: Option<Typed>) -> Result<Option<Typed>, Memory>
+fn condition_of(
+    alloc: Global,
+    into: &mut Notes,
+    typed: Option<Typed>,
+) -> Result<Option<Typed>, Memory>
     ensures told { OnOk result (into.new ≡ into.old ++ (spec.condition_of typed).notes) }
     ensures typed { IfOk result (λ t. t ≡ (spec.condition_of typed).typed) }
 {
@@ -226,7 +262,12 @@ fn condition_of(alloc: Global, into: &mut Notes, typed: Option<Typed>) -> Result
 }
 
 /// What can be a condition: a bool, a number (not 0), bytes or a text (not empty); P14 on anything else, and on a literal.
-pub fn condition(alloc: Global, into: &mut Notes, place: Place, meaning: Meaning) -> Result<Option<Typed>, Memory>
+pub fn condition(
+    alloc: Global,
+    into: &mut Notes,
+    place: Place,
+    meaning: Meaning,
+) -> Result<Option<Typed>, Memory>
     ensures told { OnOk result (into.new ≡ into.old ++ (spec.condition place (spec.says meaning)).notes) }
     ensures typed { IfOk result (λ t. t ≡ (spec.condition place (spec.says meaning)).typed) }
 {

@@ -29,7 +29,7 @@ pub describes_loop : (test : Summary) (ends : Bool) (body : Summary) (t b : Step
 describes_loop test ends body t b h k =
     describes_in_frame Loop (turn_summary test ends body) (before t (before (an_end ends) b))
     (describes_behind test (summary_behind (plain (if ends then exits_at_end else only_goes)) body) t (before (an_end ends) b) h
-      (describes_behind (plain (if ends then exits_at_end else only_goes)) body (an_end ends) b (describes_end ends) k))
+    (describes_behind (plain (if ends then exits_at_end else only_goes)) body (an_end ends) b (describes_end ends) k))
 
 -- ---- what the calls give
 

@@ -81,7 +81,7 @@ module _ (m n : Summary) (fs gs : Steps) (h : Describes m fs) (k : Describes n g
   describes_behind = record {
     rises = merged_rises m.others n.others m.touched n.touched 0 h.rises k.rises;
     others = λ x s. subst (λ e. AreEndings (GetsOut x (before fs gs) s) e.unassigned) (sym (untouched_behind m.others n.others)) (others_of_both x s);
-    effects = λ x s. subst (λ e. AreEndings (Ends x (before fs gs) s) (endings_from s e)) (sym (merged_at m.others n.others x m.touched 0 h.rises n.touched 0 k.rises)) (effects_behind x s)
+    effects = λ x s. subst (λ e. AreEndings (Ends x (before fs gs) s) (endings_from s e)) (sym (merged_at m.others n.others x m.touched 0 h.rises n.touched 0 k.rises)) (effects_behind x s);
   }
 
 -- ---- in a frame
@@ -133,7 +133,7 @@ module _ (x : ℕ) (fs : Steps) where
   arm_passing always e h =
       endings_iff (λ v. ((not always ≡ true) × (v ≡ out goes)) ⊎ ((w : Way) × Ends x fs false w × (behind_arm w ≡ v))) (Ends x (one (arm always fs)) false)
       (λ v r. elim r [
-        inl p ↦ subst (λ z. Walks x (one (arm always fs)) false z false) (sym p.1) (one_to x (arm always fs) false (out goes) false (passed always fs false (not-true always p.0)))
+        | inl p ↦ subst (λ z. Walks x (one (arm always fs)) false z false) (sym p.1) (one_to x (arm always fs) false (out goes) false (passed always fs false (not-true always p.0)))
         | inr p ↦ one_to x (arm always fs) false v false (done always fs false p.0 v false p.1 p.2)
       ])
       (λ v k. elim (arm_cases x always fs false v false (one_from x (arm always fs) false v false k)) [ inl p ↦ inl (not_from_false always p.0, p.1) | inr p ↦ inr p ])
@@ -143,7 +143,7 @@ module _ (x : ℕ) (fs : Steps) where
   arm_kept always e h =
       endings_iff (λ v. ((false ≡ true) × (v ≡ out goes)) ⊎ ((w : Way) × Ends x fs true w × (behind_arm w ≡ v))) (Ends x (one (arm always fs)) true)
       (λ v r. elim r [
-        inl p ↦ absurd (false≢true p.0)
+        | inl p ↦ absurd (false≢true p.0)
         | inr p ↦ one_to x (arm always fs) true v false (done always fs true p.0 v false p.1 p.2)
       ])
       (λ v k. elim (arm_cases x always fs true v false (one_from x (arm always fs) true v false k)) [ inl p ↦ absurd (true≢false p.2) | inr p ↦ inr p ])
@@ -171,7 +171,7 @@ module _ (x : ℕ) (fs : Steps) where
       (λ v w. elim (loop_from x fs true v (one_from x (loop fs) true v false w)) [ inl l ↦ inl l | inr p ↦ inr (back_from (Ends x fs true) e.assigned k p.0.0 p.0.1 p.0.2, p.1) ])
       (loop_effect e).assigned
       (endings_either (LastTurn x fs true) (λ v. (back ≡ true) × LastTurn x fs false v) (loop_endings e.assigned) (given back (loop_endings e.unassigned))
-        (loop_are (Ends x fs true) e.assigned k) (endings_given (LastTurn x fs false) back (loop_endings e.unassigned) (loop_are (Ends x fs false) e.unassigned h)))
+      (loop_are (Ends x fs true) e.assigned k) (endings_given (LastTurn x fs false) back (loop_endings e.unassigned) (loop_are (Ends x fs false) e.unassigned h)))
 
   frame_effects : (f : Frame) (e : Effect) → AreEndings (Ends x fs false) e.unassigned → AreEndings (Ends x fs true) e.assigned → (s : Bool) → AreEndings (Ends x (one (step_in f fs)) s) (endings_from s (in_frame f e))
   frame_effects (Arm always) e h k true = arm_kept always e.assigned k
@@ -185,11 +185,11 @@ module _ (x : ℕ) (fs : Steps) where
   arm_others s always e h =
       endings_iff (λ v. ((not always ≡ true) × (v ≡ out goes)) ⊎ ((w : Way) × GetsOut x fs s w × (behind_arm w ≡ v))) (GetsOut x (one (arm always fs)) s)
       (λ v r. elim r [
-        inl p ↦ subst (λ z. GetsOut x (one (arm always fs)) s z) (sym p.1) (tt, (s, one_to x (arm always fs) s (out goes) s (passed always fs s (not-true always p.0))))
+        | inl p ↦ subst (λ z. GetsOut x (one (arm always fs)) s z) (sym p.1) (tt, (s, one_to x (arm always fs) s (out goes) s (passed always fs s (not-true always p.0))))
         | inr p ↦ (arm_out p.0 v p.2 p.1.0, (p.1.1.0, one_to x (arm always fs) s v p.1.1.0 (done always fs s p.0 v p.1.1.0 p.1.1.1 p.2)))
       ])
       (λ v k. elim (arm_cases x always fs s v k.1.0 (one_from x (arm always fs) s v k.1.0 k.1.1)) [
-        inl p ↦ inl (not_from_false always p.0, p.1)
+        | inl p ↦ inl (not_from_false always p.0, p.1)
         | inr p ↦ inr (p.0, (arm_was_out p.0 (subst IsOut (sym p.2) k.0), (k.1.0, p.1)), p.2)
       ])
       (arm_endings (not always) e) (arm_are (GetsOut x fs s) (not always) e h)
@@ -217,5 +217,5 @@ pub describes_in_frame : (f : Frame) (m : Summary) (fs : Steps) → Describes m 
 describes_in_frame f m fs h = record {
   rises = frame_rises f 0 m.touched h.rises;
   others = λ x s. frame_others x fs f m.others s (h.others x s);
-  effects = λ x s. subst (λ e. AreEndings (Ends x (one (step_in f fs)) s) (endings_from s e)) (sym (frame_at f m.others x m.touched)) (frame_effects x fs f (effect_of m x) (h.effects x false) (h.effects x true) s)
+  effects = λ x s. subst (λ e. AreEndings (Ends x (one (step_in f fs)) s) (endings_from s e)) (sym (frame_at f m.others x m.touched)) (frame_effects x fs f (effect_of m x) (h.effects x false) (h.effects x true) s);
 }

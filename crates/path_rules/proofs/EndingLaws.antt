@@ -33,7 +33,7 @@ pub place_test : IsTest IsNotAfter is_before
 place_test = record {
   holds = λ p q h. before_holds p q (p.line == q.line) refl h;
   fails = λ p q h. before_fails p q (p.line == q.line) refl h;
-  through = not_after_through
+  through = not_after_through;
 }
 
 -- ---- exits
@@ -56,14 +56,14 @@ pub endings_iff : (P Q : Way → Type 0) → ((w : Way) → P w → Q w) → ((w
 endings_iff P Q to from a h = record {
   each = λ e k. to (out e) (h.each e k);
   all = λ e q. h.all e (from (out e) q);
-  first = least_iff IsNotAfter (λ p. P (at p)) (λ p. Q (at p)) (λ p. to (at p)) (λ p. from (at p)) a.read h.first
+  first = least_iff IsNotAfter (λ p. P (at p)) (λ p. Q (at p)) (λ p. to (at p)) (λ p. from (at p)) a.read h.first;
 }
 
 pub endings_either : (P Q : Way → Type 0) (a b : Endings) → AreEndings P a → AreEndings Q b → AreEndings (λ w. P w ⊎ Q w) (either a b)
 endings_either P Q a b h k = record {
   each = λ e g. elim (or_cases (has a.exits e) (has b.exits e) (sym (has_either a.exits b.exits e) ∙ g)) [ inl i ↦ inl (h.each e i) | inr j ↦ inr (k.each e j) ];
   all = λ e r. has_either a.exits b.exits e ∙ elim r [ inl p ↦ or_left (has a.exits e) (has b.exits e) (h.all e p) | inr q ↦ or_right (has a.exits e) (has b.exits e) (k.all e q) ];
-  first = least_either IsNotAfter is_before place_test (λ p. P (at p)) (λ p. Q (at p)) a.read b.read h.first k.first
+  first = least_either IsNotAfter is_before place_test (λ p. P (at p)) (λ p. Q (at p)) a.read b.read h.first k.first;
 }
 
 pub endings_none : (P : Way → Type 0) → ((w : Way) → P w → ⊥) → AreEndings P no_endings
@@ -89,7 +89,7 @@ endings_halted : (P : Way → Type 0) (a : Endings) → AreEndings P a → AreEn
 endings_halted P a h = record {
   each = halted_each P a h;
   all = halted_all P a h;
-  first = least_iff IsNotAfter (λ p. P (at p)) (λ p. (is_on (at p) ≡ false) × P (at p)) (λ p q. (refl, q)) (λ p q. q.1) a.read h.first
+  first = least_iff IsNotAfter (λ p. P (at p)) (λ p. (is_on (at p) ≡ false) × P (at p)) (λ p q. (refl, q)) (λ p q. q.1) a.read h.first;
 }
 
 -- one piece behind another
@@ -100,7 +100,7 @@ endings_behind_are P Q R C a on e to from h k m =
     (λ w r. elim r [ inl p ↦ inl p | inr q ↦ elim q [ inl i ↦ inr (inl (h.all goes i.0, i.1)) | inr j ↦ inr (inr (from j.0, j.1)) ] ])
     (endings_behind a on e)
     (endings_either (λ w. (is_on w ≡ false) × P w) (λ w. ((a.exits.goes ≡ true) × Q w) ⊎ ((on ≡ true) × R w)) (halted a) (either (given a.exits.goes e.unassigned) (given on e.assigned)) (endings_halted P a h)
-      (endings_either (λ w. (a.exits.goes ≡ true) × Q w) (λ w. (on ≡ true) × R w) (given a.exits.goes e.unassigned) (given on e.assigned) (endings_given Q a.exits.goes e.unassigned k) (endings_given R on e.assigned m)))
+    (endings_either (λ w. (a.exits.goes ≡ true) × Q w) (λ w. (on ≡ true) × R w) (given a.exits.goes e.unassigned) (given on e.assigned) (endings_given Q a.exits.goes e.unassigned k) (endings_given R on e.assigned m)))
 
 -- ---- in a frame
 
@@ -133,11 +133,11 @@ pub arm_are : (P : Way → Type 0) (passes : Bool) (a : Endings) → AreEndings 
 arm_are P passes a h = record {
   each = arm_each P passes a h;
   all = λ e r. elim r [
-    inl p ↦ let q : out goes ≡ out e = sym p.1 in same_exit (arm_endings passes a).exits goes e q p.0
+    | inl p ↦ let q : out goes ≡ out e = sym p.1 in same_exit (arm_endings passes a).exits goes e q p.0
     | inr p ↦ arm_done P passes a h e p.0 p.1 p.2
   ];
   first = least_iff IsNotAfter (λ p. P (at p)) (λ p. ((passes ≡ true) × (at p ≡ out goes)) ⊎ ((w : Way) × P w × (behind_arm w ≡ at p))) (λ p q. inr (at p, q, refl))
-      (λ p r. elim r [ inl q ↦ let k = q.1 in absurd (cc) | inr q ↦ subst P (arm_at q.0 p q.2) q.1 ]) a.read h.first
+      (λ p r. elim r [ inl q ↦ let k = q.1 in absurd (cc) | inr q ↦ subst P (arm_at q.0 p q.2) q.1 ]) a.read h.first;
 }
 
 if_each : (P : Way → Type 0) (a : Endings) → AreEndings P a → (e : Exit) → has (if_endings a).exits e ≡ true → (w : Way) × P w × (behind_if w ≡ out e)
@@ -166,7 +166,7 @@ pub if_are : (P : Way → Type 0) (a : Endings) → AreEndings P a → AreEnding
 if_are P a h = record {
   each = if_each P a h;
   all = λ e r. if_done P a h e r.0 r.1 r.2;
-  first = least_iff IsNotAfter (λ p. P (at p)) (λ p. (w : Way) × P w × (behind_if w ≡ at p)) (λ p q. (at p, q, refl)) (λ p q. subst P (if_at q.0 p q.2) q.1) a.read h.first
+  first = least_iff IsNotAfter (λ p. P (at p)) (λ p. (w : Way) × P w × (behind_if w ≡ at p)) (λ p q. (at p, q, refl)) (λ p q. subst P (if_at q.0 p q.2) q.1) a.read h.first;
 }
 
 loop_each : (P : Way → Type 0) (a : Endings) → AreEndings P a → (e : Exit) → has (loop_endings a).exits e ≡ true → (w : Way) × P w × (behind_loop w ≡ Some (out e))
@@ -195,7 +195,7 @@ pub loop_are : (P : Way → Type 0) (a : Endings) → AreEndings P a → AreEndi
 loop_are P a h = record {
   each = loop_each P a h;
   all = λ e r. loop_done P a h e r.0 r.1 r.2;
-  first = least_iff IsNotAfter (λ p. P (at p)) (λ p. (w : Way) × P w × (behind_loop w ≡ Some (at p))) (λ p q. (at p, q, refl)) (λ p q. subst P (loop_at q.0 p q.2) q.1) a.read h.first
+  first = least_iff IsNotAfter (λ p. P (at p)) (λ p. (w : Way) × P w × (behind_loop w ≡ Some (at p))) (λ p q. (at p, q, refl)) (λ p q. subst P (loop_at q.0 p q.2) q.1) a.read h.first;
 }
 
 pub back_to : (P : Way → Type 0) (a : Endings) → AreEndings P a → comes_back a.exits ≡ true → (w : Way) × P w × (behind_loop w ≡ None)

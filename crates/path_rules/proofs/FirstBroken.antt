@@ -43,25 +43,25 @@ module _ (o : Exits) (Q : ℕ → Place → Type 0) where
       let le = r.0 in
       let here : IsLeast IsNotAfter (Q v) t.effect.unassigned.read = subst (λ e. IsLeast IsNotAfter (Q v) e.unassigned.read) (cond-true (v == v) t.effect (effect_in o v ts) (eq-eqb v v refl)) (each v le) in
       let later = λ (x : ℕ) (k : suc v ≤ x).
-        let ne : x ≡ v → ⊥ = λ (e : x ≡ v). omega arith in
-        let from : n ≤ x = omega arith in
-        subst (λ e. IsLeast IsNotAfter (Q x) e.unassigned.read) (cond-false (x == v) t.effect (effect_in o x ts) (ne_eqb x v ne)) (each x from) in
+      let ne : x ≡ v → ⊥ = λ (e : x ≡ v). omega arith in
+      let from : n ≤ x = omega arith in
+      subst (λ e. IsLeast IsNotAfter (Q x) e.unassigned.read) (cond-false (x == v) t.effect (effect_in o x ts) (ne_eqb x v ne)) (each x from) in
       let up : v ≤ v = omega arith in
       least_iff IsNotAfter (λ p. (P p ⊎ Q v p) ⊎ FromOn (suc v) Q p) (λ p. P p ⊎ FromOn n Q p)
       (λ p k. elim k [
-        inl a ↦ elim a [ inl q ↦ inl q | inr q ↦ inr (v, le, q) ]
+        | inl a ↦ elim a [ inl q ↦ inl q | inr q ↦ inr (v, le, q) ]
         | inr q ↦ (let g = q.1 in inr (q.0, omega arith, q.2))
       ])
       (λ p k. elim k [
-        inl q ↦ inl (inl q)
+        | inl q ↦ inl (inl q)
         | inr q ↦ elim (split_at n v q.0 q.1 le) [
-          inl e ↦ inl (inr (subst (λ z. Q z p) e q.2))
+          | inl e ↦ inl (inr (subst (λ z. Q z p) e q.2))
           | inr c ↦ elim c [ inl l ↦ absurd (not_named v (t ∷ ts) (up, r.1) q.0 l (each q.0 q.1) p q.2) | inr g ↦ inr (q.0, g, q.2) ]
         ]
       ])
       (first_read (earlier_place first t.effect.unassigned.read) ts)
       (reads_first ts (suc v) r.1 later (λ p. P p ⊎ Q v p) (earlier_place first t.effect.unassigned.read)
-        (least_either IsNotAfter is_before place_test P (Q v) first t.effect.unassigned.read h here))
+      (least_either IsNotAfter is_before place_test P (Q v) first t.effect.unassigned.read h here))
 
 pub first_unassigned : (m : Summary) (fs : Steps) → Describes m fs → IsLeast IsNotAfter (IsReadUnassigned fs) (first_read None m.touched)
 first_unassigned m fs h =
@@ -105,16 +105,16 @@ first_broken m fs end h =
     let missing = refused_at P18 (where_it_holds m.others.goes end) in
     least_iff ComesFirst (λ r. (TellAll false fs r ⊎ reads r) ⊎ ends r) (Breaks fs end)
     (λ r k. elim k [
-      inl a ↦ elim a [ inl t ↦ told r t | inr q ↦ subst (λ z. Breaks fs end z) q.2 (unassigned q.0 q.1) ]
+      | inl a ↦ elim a [ inl t ↦ told r t | inr q ↦ subst (λ z. Breaks fs end z) q.2 (unassigned q.0 q.1) ]
       | inr q ↦ subst (λ z. Breaks fs end z) q.2 (no_return q.0 q.1.0 q.1.1)
     ])
     (broken_cases fs end) (earlier_refusal told_or_read missing)
     (least_either ComesFirst precedes refusal_test (λ r. TellAll false fs r ⊎ reads r) ends told_or_read missing
-      (least_either ComesFirst precedes refusal_test (TellAll false fs) reads (told_by_all None false fs) (refused_at P17 (first_read None m.touched)) (told_is_first fs)
-        (refused_first P17 (IsReadUnassigned fs) (first_read None m.touched) (first_unassigned m fs h)))
-      (refused_first P18 (EndAt fs end) (where_it_holds m.others.goes end)
-        (end_first fs end m.others.goes
-          (λ e. let w = ((h.others 0 false).each goes e).1 in (0, w.0, w.1)) (λ k. (h.others k.0 false).all goes (tt, (k.1, k.2))))))
+    (least_either ComesFirst precedes refusal_test (TellAll false fs) reads (told_by_all None false fs) (refused_at P17 (first_read None m.touched)) (told_is_first fs)
+    (refused_first P17 (IsReadUnassigned fs) (first_read None m.touched) (first_unassigned m fs h)))
+    (refused_first P18 (EndAt fs end) (where_it_holds m.others.goes end)
+    (end_first fs end m.others.goes
+    (λ e. let w = ((h.others 0 false).each goes e).1 in (0, w.0, w.1)) (λ k. (h.others k.0 false).all goes (tt, (k.1, k.2))))))
 
 -- what the calls of `broken` give
 pub broken_gives : (notes listed : List Note) (m : Summary) (end : Option Place) (touched : List Touched) (read missing : Option Place) (all unread first unended answer : Option Refusal)

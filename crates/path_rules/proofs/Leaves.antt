@@ -32,7 +32,7 @@ plain_effect f o only made x true = endings_none (λ w. Walk x f true w false) (
 plain_effect f o only made x false = record {
   each = λ e h. made x false e h;
   all = λ e h. plain_exit f o only x false e false h;
-  first = λ p h. let k = (only x false (at p) false h).1 in cc
+  first = λ p h. let k = (only x false (at p) false h).1 in cc;
 }
 
 one_endings : (x : ℕ) (f : Step) (s : Bool) (a : Endings) → AreEndings (λ w. Walk x f s w false) a → AreEndings (Ends x (one f) s) a
@@ -44,9 +44,9 @@ plain_describes f o only made = record {
   others = λ x s. record {
     each = λ e h. (tt, (s, one_to x f s (out e) s (made x s e h)));
     all = λ e h. plain_exit f o only x s e h.1.0 (one_from x f s (out e) h.1.0 h.1.1);
-    first = λ p h. h.0
+    first = λ p h. h.0;
   };
-  effects = λ x s. one_endings x f s (endings_from s (untouched o)) (plain_effect f o only made x s)
+  effects = λ x s. one_endings x f s (endings_from s (untouched o)) (plain_effect f o only made x s);
 }
 
 fault_only : (r : Refusal) → OnlyOut (broken r) only_goes
@@ -86,7 +86,7 @@ no_return : (x : ℕ) (s : Bool) → AreEndings (λ w. Walk x return s w false) 
 no_return x s = record {
   each = λ e h. absurd (none_has e h);
   all = λ e h. let k = return_cases x s (out e) false h in absurd (cc);
-  first = λ p h. let k = return_cases x s (at p) false h in cc
+  first = λ p h. let k = return_cases x s (at p) false h in cc;
 }
 
 return_effect : (x : ℕ) (s : Bool) → AreEndings (λ w. Walk x return s w false) (endings_from s (untouched no_exits))
@@ -99,9 +99,9 @@ describes_return = record {
   others = λ x s. record {
     each = λ e h. absurd (none_has e h);
     all = λ e h. let k = return_cases x s (out e) h.1.0 (one_from x return s (out e) h.1.0 h.1.1) in absurd (cc);
-    first = λ p h. h.0
+    first = λ p h. h.0;
   };
-  effects = λ x s. one_endings x return s (endings_from s (untouched no_exits)) (return_effect x s)
+  effects = λ x s. one_endings x return s (endings_from s (untouched no_exits)) (return_effect x s);
 }
 
 end_only : OnlyOut may_end exits_at_end
@@ -134,10 +134,10 @@ naming_describes f y effect only made others named = record {
   others = λ x s. record {
     each = λ e h. let m = made x s in (tt, (m.0, one_to x f s (out e) m.0 (subst (λ z. Walk x f s (out z) m.0) (sym (only_has e h)) m.1)));
     all = λ e h. same_exit only_goes goes e (sym (only x s e h.1.0 (one_from x f s (out e) h.1.0 h.1.1))) refl;
-    first = λ p h. h.0
+    first = λ p h. h.0;
   };
   effects = λ x s. cond_both (x == y) effect (untouched only_goes) (λ e. AreEndings (Ends x (one f) s) (endings_from s e))
-      (λ h. one_endings x f s (endings_from s effect) (named x h s)) (λ h. one_endings x f s (endings_from s (untouched only_goes)) (others x h s))
+      (λ h. one_endings x f s (endings_from s effect) (named x h s)) (λ h. one_endings x f s (endings_from s (untouched only_goes)) (others x h s));
 }
 
 -- of a variable that the step does not name
@@ -146,7 +146,7 @@ passing x f only made true = endings_none (λ w. Walk x f true w false) (λ w h.
 passing x f only made false = record {
   each = λ e h. subst (λ z. Walk x f false (out z) false) (sym (only_has e h)) made;
   all = λ e h. same_exit only_goes goes e (sym (only false (out e) h).0) refl;
-  first = λ p h. let k = (only false (at p) h).0 in cc
+  first = λ p h. let k = (only false (at p) h).0 in cc;
 }
 
 read_cases : (x y : ℕ) (p : Place) (s : Bool) (w : Way) (t : Bool) → Walk x (read y p) s w t → ((w ≡ at p) × ((x == y) ≡ true) × (s ≡ t)) ⊎ ((w ≡ out goes) × (s ≡ t))
@@ -161,7 +161,7 @@ read_kept x y p s w h = elim (read_cases x y p s w false h) [ inl k ↦ k.2 | in
 
 read_first : (x y : ℕ) (p q : Place) (s : Bool) → Walk x (read y p) s (at q) false → IsNotAfter p q
 read_first x y p q s h = elim (read_cases x y p s (at q) false h) [
-  inl k ↦ (let r = k.0 in let is : p ≡ q = cc in subst (λ z. IsNotAfter p z) is (not_after_itself p))
+  | inl k ↦ (let r = k.0 in let is : p ≡ q = cc in subst (λ z. IsNotAfter p z) is (not_after_itself p))
   | inr k ↦ (let r = k.0 in absurd (cc))
 ]
 
@@ -170,7 +170,7 @@ read_named x y p e true = endings_none (λ w. Walk x (read y p) true w false) (�
 read_named x y p e false = record {
   each = λ d h. subst (λ z. Walk x (read y p) false (out z) false) (sym (only_has d h)) (past_read y p false);
   all = λ d h. same_exit only_goes goes d (sym (read_only x y p false d false h)) refl;
-  first = (at_read y p false e, λ q h. read_first x y p q false h)
+  first = (at_read y p false e, λ q h. read_first x y p q false h);
 }
 
 read_other : (x y : ℕ) (p : Place) → (x == y) ≡ false → (s : Bool) (w : Way) → Walk x (read y p) s w false → (w ≡ out goes) × (s ≡ false)
@@ -206,7 +206,7 @@ forget_named : (x y : ℕ) → (x == y) ≡ true → (s : Bool) → AreEndings (
 forget_named x y e s = record {
   each = λ d h. subst (λ z. Walk x (forget y) s (out z) false) (sym (only_has d h)) (subst (λ t. Walk x (forget y) s (out goes) t) (cond-true (x == y) false s e) (forgets y s));
   all = λ d h. same_exit only_goes goes d (sym (forget_cases x y s (out d) false h).0) refl;
-  first = λ p h. let k = (forget_cases x y s (at p) false h).0 in cc
+  first = λ p h. let k = (forget_cases x y s (at p) false h).0 in cc;
 }
 
 forget_effects : (x y : ℕ) → (x == y) ≡ true → (s : Bool) → AreEndings (λ w. Walk x (forget y) s w false) (endings_from s forget_effect)

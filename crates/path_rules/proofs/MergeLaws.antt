@@ -36,8 +36,8 @@ with_rises a b t rest k (u ∷ us) n h r =
     cond_both (nat_lt t.variable u.variable) (left_alone a b t ∷ rest (u ∷ us)) (if nat_lt u.variable t.variable then right_alone a b u ∷ merged_with a b t rest us else both_named a t u ∷ rest us) (λ l. Rises n l)
     (λ e. let lt = ltb-true t.variable u.variable e in let le : suc t.variable ≤ u.variable = omega arith in (h, k (u ∷ us) (le, r.1)))
     (λ e. cond_both (nat_lt u.variable t.variable) (right_alone a b u ∷ merged_with a b t rest us) (both_named a t u ∷ rest us) (λ l. Rises n l)
-      (λ f. let lt = ltb-true u.variable t.variable f in let le : suc u.variable ≤ t.variable = omega arith in (r.0, with_rises a b t rest k us (suc u.variable) le r.1))
-      (λ f. let ge = ltb-false t.variable u.variable e in let le = ltb-false u.variable t.variable f in let l : suc t.variable ≤ suc u.variable = omega arith in (h, k us (rises_more (suc t.variable) (suc u.variable) us l r.1))))
+    (λ f. let lt = ltb-true u.variable t.variable f in let le : suc u.variable ≤ t.variable = omega arith in (r.0, with_rises a b t rest k us (suc u.variable) le r.1))
+    (λ f. let ge = ltb-false t.variable u.variable e in let le = ltb-false u.variable t.variable f in let l : suc t.variable ≤ suc u.variable = omega arith in (h, k us (rises_more (suc t.variable) (suc u.variable) us l r.1))))
 
 pub merged_rises : (a b : Exits) (ts us : List Touched) (n : ℕ) → Rises n ts → Rises n us → Rises n (merged a b ts us)
 merged_rises a b [] us n h k = right_rises a b n us k
@@ -84,29 +84,29 @@ module _ (a b : Exits) (x : ℕ) where
       let u_no = λ (e : (x == u.variable) ≡ false). sym (cond-false (x == u.variable) u.effect (effect_in b x us) e) in
       cond_both (nat_lt t.variable u.variable) (left_alone a b t ∷ rest (u ∷ us)) (if nat_lt u.variable t.variable then right_alone a b u ∷ merged_with a b t rest us else both_named a t u ∷ rest us) (λ l. effect_in o x l ≡ behind a.goes here there)
       (λ lt. if_is (x == t.variable) (behind a.goes t.effect (untouched b)) (effect_in o x (rest (u ∷ us))) (behind a.goes here there)
-        (λ e.
-          let is = eqb-true x t.variable e in
-          let less = ltb-true t.variable u.variable lt in
-          let below : x < u.variable = omega arith in
-          let from : u.variable ≤ u.variable = omega arith in
-          behind_of a.goes t.effect here (untouched b) there (t_yes e) (sym (absent b x u.variable (u ∷ us) below (from, r.1))))
-        (λ e. k (u ∷ us) n r ∙ behind_of a.goes (effect_in a x ts) here there there (t_no e) refl))
+      (λ e.
+      let is = eqb-true x t.variable e in
+      let less = ltb-true t.variable u.variable lt in
+      let below : x < u.variable = omega arith in
+      let from : u.variable ≤ u.variable = omega arith in
+      behind_of a.goes t.effect here (untouched b) there (t_yes e) (sym (absent b x u.variable (u ∷ us) below (from, r.1))))
+      (λ e. k (u ∷ us) n r ∙ behind_of a.goes (effect_in a x ts) here there there (t_no e) refl))
       (λ ge. cond_both (nat_lt u.variable t.variable) (right_alone a b u ∷ merged_with a b t rest us) (both_named a t u ∷ rest us) (λ l. effect_in o x l ≡ behind a.goes here there)
-        (λ lt. if_is (x == u.variable) (behind a.goes (untouched a) u.effect) (effect_in o x (merged_with a b t rest us)) (behind a.goes here there)
-          (λ e.
-            let is = eqb-true x u.variable e in
-            let less = ltb-true u.variable t.variable lt in
-            let below : x < t.variable = omega arith in
-            let from : t.variable ≤ t.variable = omega arith in
-            behind_of a.goes (untouched a) here u.effect there (sym (absent a x t.variable (t ∷ ts) below (from, up))) (u_yes e))
-          (λ e. with_at t ts up rest k us (suc u.variable) r.1 ∙ behind_of a.goes here here (effect_in b x us) there refl (u_no e)))
-        (λ le.
-          let more = ltb-false t.variable u.variable ge in
-          let less = ltb-false u.variable t.variable le in
-          let same : t.variable ≡ u.variable = omega arith in
-          if_is (x == t.variable) (behind a.goes t.effect u.effect) (effect_in o x (rest us)) (behind a.goes here there)
-          (λ e. behind_of a.goes t.effect here u.effect there (t_yes e) (u_yes (subst (λ n. (x == n) ≡ true) same e)))
-          (λ e. k us (suc u.variable) r.1 ∙ behind_of a.goes (effect_in a x ts) here (effect_in b x us) there (t_no e) (u_no (subst (λ n. (x == n) ≡ false) same e)))))
+      (λ lt. if_is (x == u.variable) (behind a.goes (untouched a) u.effect) (effect_in o x (merged_with a b t rest us)) (behind a.goes here there)
+      (λ e.
+      let is = eqb-true x u.variable e in
+      let less = ltb-true u.variable t.variable lt in
+      let below : x < t.variable = omega arith in
+      let from : t.variable ≤ t.variable = omega arith in
+      behind_of a.goes (untouched a) here u.effect there (sym (absent a x t.variable (t ∷ ts) below (from, up))) (u_yes e))
+      (λ e. with_at t ts up rest k us (suc u.variable) r.1 ∙ behind_of a.goes here here (effect_in b x us) there refl (u_no e)))
+      (λ le.
+      let more = ltb-false t.variable u.variable ge in
+      let less = ltb-false u.variable t.variable le in
+      let same : t.variable ≡ u.variable = omega arith in
+      if_is (x == t.variable) (behind a.goes t.effect u.effect) (effect_in o x (rest us)) (behind a.goes here there)
+      (λ e. behind_of a.goes t.effect here u.effect there (t_yes e) (u_yes (subst (λ n. (x == n) ≡ true) same e)))
+      (λ e. k us (suc u.variable) r.1 ∙ behind_of a.goes (effect_in a x ts) here (effect_in b x us) there (t_no e) (u_no (subst (λ n. (x == n) ≡ false) same e)))))
 
   pub merged_at : (ts : List Touched) (m : ℕ) → Rises m ts → (us : List Touched) (n : ℕ) → Rises n us → effect_in (others_behind a b) x (merged a b ts us) ≡ behind a.goes (effect_in a x ts) (effect_in b x us)
   merged_at [] m h us n r = right_at us
@@ -139,7 +139,7 @@ merged-none a b (t ∷ ts) = ap (λ l. left_alone a b t ∷ l) (merged-none a b 
 by_tests : (a b : Exits) (t : Touched) (ts : List Touched) (u : Touched) (us : List Touched) (c d : Bool)
     → let n : Next = if c then record { touched = left_alone a b t; first = 1; second = 0 } else (if d then record { touched = right_alone a b u; first = 0; second = 1 } else record { touched = both_named a t u; first = 1; second = 1 }) in
     (if c then left_alone a b t ∷ merged a b ts (u ∷ us) else (if d then right_alone a b u ∷ merged_with a b t (merged a b ts) us else both_named a t u ∷ merged a b ts us))
-      ≡ n.touched ∷ merged a b (drop n.first (t ∷ ts)) (drop n.second (u ∷ us))
+    ≡ n.touched ∷ merged a b (drop n.first (t ∷ ts)) (drop n.second (u ∷ us))
 by_tests a b t ts u us true d = refl
 by_tests a b t ts u us false true = refl
 by_tests a b t ts u us false false = refl

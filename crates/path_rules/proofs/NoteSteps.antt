@@ -56,7 +56,7 @@ if_step r n arms given_arms rest given_rest parts last e f g h k d =
     gives_same r (an_if (arms_of given_arms) (steps_of given_rest)) (step_of n)
     (ap step_of e ∙ step-If arms rest ∙ ap (λ z. an_if (arms_of z) (steps_of rest)) (sym f) ∙ ap (λ z. an_if (arms_of given_arms) (steps_of z)) (sym g))
     (ok_map (λ m. (fs gs : Steps) → TogetherWith parts gs fs → Describes last gs → Describes m (one (choice fs))) (λ m. Describes m (one (choice whole)))
-      (λ m q. q whole (steps_of given_rest) with_rest k) r d)
+    (λ m q. q whole (steps_of given_rest) with_rest k) r d)
 
 pub loop_step : (r : Result Summary Memory) (n : Note) (test given_test : List Note) (ends : Bool) (body given_body : List Note) (first second : Summary) → n ≡ note.Loop test ends body → given_test ≡ test → given_body ≡ body
     → Describes first (steps_of given_test) → Describes second (steps_of given_body)
@@ -65,14 +65,14 @@ loop_step r n test given_test ends body given_body first second e f g h k d =
     gives_same r (a_loop (steps_of given_test) ends (steps_of given_body)) (step_of n)
     (ap step_of e ∙ step-Loop test ends body ∙ ap (λ z. a_loop (steps_of z) ends (steps_of body)) (sym f) ∙ ap (λ z. a_loop (steps_of given_test) ends (steps_of z)) (sym g))
     (ok_map (λ m. (t b : Steps) → Describes first t → Describes second b → Describes m (one (a_loop t ends b))) (λ m. Describes m (one (a_loop (steps_of given_test) ends (steps_of given_body))))
-      (λ m q. q (steps_of given_test) (steps_of given_body) h k) r d)
+    (λ m q. q (steps_of given_test) (steps_of given_body) h k) r d)
 
 pub arm_step : (r : Result Summary Memory) (a : NoteArm) (test body : Summary) (given_test given_body : List Note) → given_test ≡ a.test → given_body ≡ a.body → Describes test (steps_of given_test) → Describes body (steps_of given_body)
     → IfOk r (λ m. (t b : Steps) → Describes test t → Describes body b → Describes m (an_arm t a.always b)) → Gives r (arm_of a)
 arm_step r a test body given_test given_body e f h k g =
     ok_map (λ m. (t b : Steps) → Describes test t → Describes body b → Describes m (an_arm t a.always b)) (λ m. Describes m (arm_of a))
     (λ m d. subst (λ z. Describes m z) (sym (arm-is a))
-      (d (steps_of a.test) (steps_of a.body) (subst (λ z. Describes test (steps_of z)) e h) (subst (λ z. Describes body (steps_of z)) f k))) r g
+    (d (steps_of a.test) (steps_of a.body) (subst (λ z. Describes test (steps_of z)) e h) (subst (λ z. Describes body (steps_of z)) f k))) r g
 
 -- ---- lists
 

@@ -68,12 +68,12 @@ first_through a b c h k = record {
       let e = both_ways a.place b.place h.place back in
       let m = h.rule e in
       let n = k.rule (sym e ∙ s) in
-      omega arith
+      omega arith;
 }
 
 pub refusal_test : IsTest ComesFirst precedes
 refusal_test = record {
   holds = λ q r h. precedes_holds q r (q.place.line == r.place.line) (q.place.col == r.place.col) refl refl h;
   fails = λ q r h. precedes_fails q r (q.place.line == r.place.line) (q.place.col == r.place.col) refl refl h;
-  through = first_through
+  through = first_through;
 }

@@ -44,7 +44,7 @@ none_from x true = endings_none (Ends x no_steps true) (λ w h. true≢false (no
 none_from x false = record {
   each = λ e h. none_each x false e h;
   all = λ e h. none_all x false e false h;
-  first = λ p h. let e = (nothing_more x false (at p) false h).0 in cc
+  first = λ p h. let e = (nothing_more x false (at p) false h).0 in cc;
 }
 
 pub describes_nothing : Describes (plain only_goes) no_steps
@@ -53,9 +53,9 @@ describes_nothing = record {
   others = λ x s. record {
     each = λ e h. (tt, (s, none_each x s e h));
     all = λ e h. none_all x s e h.1.0 h.1.1;
-    first = λ p h. h.0
+    first = λ p h. h.0;
   };
-  effects = none_from
+  effects = none_from;
 }
 
 -- ---- pieces
@@ -89,7 +89,7 @@ pub one_more : (ms : List Summary) (m : Summary) (gs rest whole : Steps) → Tog
 one_more ms m gs rest whole h k = record {
   so_far = before h.so_far gs;
   together = with_one_more ms m h.so_far gs h.together k;
-  all_of = before-before h.so_far gs rest ∙ h.all_of
+  all_of = before-before h.so_far gs rest ∙ h.all_of;
 }
 
 pub all_there : (ms : List Summary) (whole : Steps) → TogetherWith ms no_steps whole → Together ms whole

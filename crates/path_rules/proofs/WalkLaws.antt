@@ -65,7 +65,7 @@ no_more x _ _ _ (ended s) = (refl, refl)
 
 pub one_from : (x : ℕ) (f : Step) (s : Bool) (w : Way) (t : Bool) → Walks x (one f) s w t → Walk x f s w t
 one_from x f s w t h = elim (step_cases x f no_steps s w t h) [
-  inl p ↦ p.1
+  | inl p ↦ p.1
   | inr p ↦ let e = no_more x p.0 w t p.2 in subst (λ v. Walk x f s v t) (sym e.0) (subst (λ r. Walk x f s (out goes) r) e.1 p.1)
 ]
 
@@ -103,14 +103,14 @@ mutual
   also x _ _ _ _ (ended s) r = inr (ended r)
   also x _ _ _ _ (stopped f fs s w t k h) r = elim (also_step x f s w t h r) [ inl m ↦ inl (stopped f fs r w t k m) | inr m ↦ inr (stopped f fs r w r k m) ]
   also x _ _ _ _ (went_on f fs s t w u h k) r = elim (also_step x f s (out goes) t h r) [
-    inl m ↦ inl (went_on f fs r t w u m k)
+    | inl m ↦ inl (went_on f fs r t w u m k)
     | inr m ↦ elim (also x fs t w u k r) [ inl n ↦ inl (went_on f fs r r w u m n) | inr n ↦ inr (went_on f fs r r w r m n) ]
   ]
 
   also_turns : (x : ℕ) (fs : Steps) (s : Bool) (w : Way) (t : Bool) → Turns x fs s w t → (r : Bool) → Turns x fs r w t ⊎ Turns x fs r w r
   also_turns x _ _ _ _ (last_turn fs s w v t h e) r = elim (also x fs s w t h r) [ inl m ↦ inl (last_turn fs r w v t m e) | inr m ↦ inr (last_turn fs r w v r m e) ]
   also_turns x _ _ _ _ (next_turn fs s w t v u h e k) r = elim (also x fs s w t h r) [
-    inl m ↦ inl (next_turn fs r w t v u m e k)
+    | inl m ↦ inl (next_turn fs r w t v u m e k)
     | inr m ↦ elim (also_turns x fs t v u k r) [ inl n ↦ inl (next_turn fs r w r v u m e n) | inr n ↦ inr (next_turn fs r w r v r m e n) ]
   ]
 

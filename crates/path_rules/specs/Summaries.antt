@@ -83,7 +83,7 @@ comes_back e = e.goes || e.continues
 abbrev pub loop_effect : Effect → Effect
 loop_effect e = record {
   unassigned = loop_endings e.unassigned;
-  assigned = either (loop_endings e.assigned) (given (comes_back e.assigned.exits) (loop_endings e.unassigned))
+  assigned = either (loop_endings e.assigned) (given (comes_back e.assigned.exits) (loop_endings e.unassigned));
 }
 
 abbrev pub in_frame : Frame → Effect → Effect

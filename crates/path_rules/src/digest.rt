@@ -5,8 +5,8 @@ ghost use Rattle.path_rules.specs.Describes.{Describes, Together, TogetherWith, 
 ghost use Rattle.path_rules.specs.Steps.{Steps, read, assign, forget, one, an_arm, a_loop, choice, in_turn, step_of, steps_of, arm_of, arms_of};
 ghost use Rattle.path_rules.specs.Summaries as spec;
 
-use crate::joining::{joined, only_goes, plain};
 use crate::endings::no_endings;
+use crate::joining::{joined, only_goes, plain};
 use crate::merging::{summary_behind, summary_in_frame};
 use crate::note::{Note, NoteArm};
 use crate::summary::{Effect, Endings, Exits, Frame, Summary, Touched};

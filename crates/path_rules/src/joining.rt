@@ -32,7 +32,12 @@ pub(crate) fn only_goes() -> Exits
 }
 
 /// Adds the summary of a piece and of the one behind it, or of the second alone.
-fn push_both(alloc: Global, into: &mut Vec<Summary>, first: Option<Summary>, second: Summary) -> Result<(), Memory>
+fn push_both(
+    alloc: Global,
+    into: &mut Vec<Summary>,
+    first: Option<Summary>,
+    second: Summary,
+) -> Result<(), Memory>
     ensures items { OnOk result (into.new.items ≡ into.old.items ++ both_or_one first second ∷ []) }
     ensures len { OnOk result (vec_len into.new ≡ vec_len into.old + 1) }
 {

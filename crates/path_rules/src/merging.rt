@@ -99,7 +99,13 @@ fn push_right(into: &mut List<Touched>, a: Exits, b: Exits, rest: &[Touched]) ->
 }
 
 /// The variables of two pieces, one behind the other, the least first.
-fn merged(alloc: Global, a: Exits, b: Exits, first: &[Touched], second: &[Touched]) -> Result<List<Touched>, Memory>
+fn merged(
+    alloc: Global,
+    a: Exits,
+    b: Exits,
+    first: &[Touched],
+    second: &[Touched],
+) -> Result<List<Touched>, Memory>
     ensures { IfOk result (λ ts. ts ≡ spec.merged a b first.now second.now) }
 {
     let mut touched = List::new(alloc);
@@ -117,11 +123,21 @@ fn merged(alloc: Global, a: Exits, b: Exits, first: &[Touched], second: &[Touche
 }
 
 /// The summary of two pieces, one behind the other. The time is linear in the variables that they name.
-pub(crate) fn summary_behind(alloc: Global, first: &Summary, second: &Summary) -> Result<Summary, Memory>
+pub(crate) fn summary_behind(
+    alloc: Global,
+    first: &Summary,
+    second: &Summary,
+) -> Result<Summary, Memory>
     ensures { IfOk result (λ m. m ≡ spec.summary_behind first.now second.now) }
 {
     let (a, b) = (first.others, second.others);
-    let touched = merged(alloc, a, b, first.touched.as_slice(), second.touched.as_slice())?;
+    let touched = merged(
+        alloc,
+        a,
+        b,
+        first.touched.as_slice(),
+        second.touched.as_slice(),
+    )?;
     Ok(Summary {
         others: others_behind(a, b),
         touched,
@@ -129,7 +145,11 @@ pub(crate) fn summary_behind(alloc: Global, first: &Summary, second: &Summary) -
 }
 
 /// The summary of notes in a frame.
-pub(crate) fn summary_in_frame(alloc: Global, frame: Frame, inner: &Summary) -> Result<Summary, Memory>
+pub(crate) fn summary_in_frame(
+    alloc: Global,
+    frame: Frame,
+    inner: &Summary,
+) -> Result<Summary, Memory>
     ensures { IfOk result (λ m. m ≡ spec.summary_in_frame frame inner.now) }
 {
     let mut touched = List::new(alloc);

@@ -7,6 +7,7 @@ use std::alloc::Global;
 use std::test::Fail;
 
 const READ: Place = Place { line: 5, col: 16 };
+
 const NAME: Place = Place { line: 3, col: 9 };
 
 fn none(alloc: Global) -> Notes {
@@ -106,7 +107,10 @@ fn break_stands_in_a_loop(rt: HostRuntime) -> Result<(), Fail> {
     let alloc = rt.alloc();
     let rule = Rule::P19;
     let notes = one(alloc, Note::Break(READ))?;
-    assert_eq!(rt; broken(alloc, &notes, None)?, Some(Refusal { rule, place: READ }));
+    assert_eq!(rt;
+        broken(alloc, &notes, None)?,
+        Some(Refusal { rule, place: READ })
+    );
     Ok(())
 }
 
@@ -116,7 +120,10 @@ fn a_function_with_a_result_returns(rt: HostRuntime) -> Result<(), Fail> {
     let rule = Rule::P18;
     let body = one(alloc, Note::Return)?;
     let notes = one(alloc, one_arm(alloc, false, body, none(alloc))?)?;
-    assert_eq!(rt; broken(alloc, &notes, Some(NAME))?, Some(Refusal { rule, place: NAME }));
+    assert_eq!(rt;
+        broken(alloc, &notes, Some(NAME))?,
+        Some(Refusal { rule, place: NAME })
+    );
     assert_eq!(rt; broken(alloc, &notes, None)?, None);
     Ok(())
 }
@@ -139,6 +146,9 @@ fn the_earlier_place_comes_first_and_then_the_lower_rule(rt: HostRuntime) -> Res
     assert_eq!(rt; broken(alloc, &notes, None)?, unassigned(NAME));
     let same = Note::Broken(Refusal { rule, place: READ });
     let notes = two(alloc, Note::Read(0, READ), same)?;
-    assert_eq!(rt; broken(alloc, &notes, None)?, Some(Refusal { rule, place: READ }));
+    assert_eq!(rt;
+        broken(alloc, &notes, None)?,
+        Some(Refusal { rule, place: READ })
+    );
     Ok(())
 }
