@@ -13,4 +13,4 @@ repeated-more all next t (suc k) less whole h e n w =
 pub repeated-all : (all : List SourceType) (t : SourceType) (left : ℕ) (whole : List SourceType) → left ≡ 0 → all ++ repeated left t ≡ whole → all ≡ whole
 repeated-all all t left whole e w = sym (append-nil all) ∙ sym (ap (λ m. all ++ repeated m t) e) ∙ w
 
-ruleset pub steps = (repeated-more, repeated-all)
+pub ruleset steps = (repeated-more, repeated-all)

@@ -65,4 +65,4 @@ of_type p t u k = record { ty = t; expr = record { place = p; ty = u; kind = k }
 pub a_node-Scalar : (p : Place) (s : Scalar) (u : Ty) (k : ExprKind) → u ≡ typed_scalar s → of_type p (ty.Scalar s) u k ≡ a_node p (ty.Scalar s) k
 a_node-Scalar p s u k h = ap (λ z. of_type p (ty.Scalar s) z k) (h ∙ sym (typed-Scalar s))
 
-ruleset pub alike = (same_type-Scalar, same_type-Nothing, same_type-Tuple)
+pub ruleset alike = (same_type-Scalar, same_type-Nothing, same_type-Tuple)

@@ -43,7 +43,7 @@ admits-Either (Some scalar.Account) = refl
 admits-Nothing : (o : Option Scalar) → admits_scalar class.Nothing o ≡ false
 admits-Nothing o = refl
 
-ruleset pub admitted = (admits-Number, admits-Bytes, admits-Either, admits-Nothing)
+pub ruleset admitted = (admits-Number, admits-Bytes, admits-Either, admits-Nothing)
 
 -- ---- one after another
 

@@ -55,4 +55,4 @@ call_hex-other p (k ∷ []) n = absurd (n refl)
 call_hex-other p (value_at i t ∷ m ∷ ks) n = refl
 call_hex-other p (literal_at i q l ∷ m ∷ ks) n = refl
 
-ruleset pub called = (call_hex-one, call_hex-other)
+pub ruleset called = (call_hex-one, call_hex-other)

@@ -15,4 +15,4 @@ call_type-more p s ks [] k e n = absurd (n refl)
 call_type-more p s ks (f ∷ []) k e n = ap (call_type p s) e
 call_type-more p s ks (f ∷ g ∷ fs) k e n = ap (call_type p s) e
 
-ruleset pub types_called = (call_type-one, call_type-more)
+pub ruleset types_called = (call_type-one, call_type-more)

@@ -38,7 +38,7 @@ ranged-more front ks a b s e n = before_more ks a b s n ∙ ap (λ f. ranged (f 
 pub ranged-last : (front ks : List Known) (a b : Known) (r : Ranged) → front ≡ ks ++ a ∷ [] → r ≡ ranged (ks ++ a ∷ b ∷ []) → r ≡ ranged (front ++ b ∷ [])
 ranged-last front ks a b r e h = h ∙ ap ranged (sym (append_assoc ks (a ∷ []) (b ∷ []))) ∙ ap (λ f. ranged (f ++ b ∷ [])) (sym e)
 
-ruleset pub numbers = (ranged-none, ranged-one, ranged-two, ranged-three, ranged-more, ranged-last)
+pub ruleset numbers = (ranged-none, ranged-one, ranged-two, ranged-three, ranged-more, ranged-last)
 
 by_cases : (p : Place) (ks : List Known) → call_range p ks ≡ range_of p (ranged ks)
 by_cases p [] = refl
@@ -50,4 +50,4 @@ by_cases p (a ∷ b ∷ s ∷ t ∷ ks) = refl
 pub call_range-ranged : (p : Place) (ks : List Known) (r : Ranged) → r ≡ ranged ks → call_range p ks ≡ range_of p r
 call_range-ranged p ks r e = by_cases p ks ∙ ap (range_of p) (sym e)
 
-ruleset pub call_range_ranged = (call_range-ranged)
+pub ruleset call_range_ranged = (call_range-ranged)

@@ -8,7 +8,7 @@ ghost use Rattle.meaning_rules.specs.Calls as spec;
 use crate::arguments::Known;
 use crate::meaning::Typed;
 use crate::telling::{expr_in, small, value_breaks};
-use crate::types::scalar_of;
+use crate::types::{is_scalar, scalar_of};
 use crate::values::fits_type;
 use algopy_library::{Admits, Form, Scalar, admitted, is_logged};
 use awst::{Exprs, Order};
@@ -73,15 +73,6 @@ fn param_test(
     ensures typed { IfOk result (λ t. t ≡ (spec.param_test signature.now number typed).typed) }
 {
     fits_parameter(into, signature.params.get(number), typed)
-}
-
-fn is_scalar(scalar: Option<Scalar>, wanted: Scalar) -> bool
-    ensures { result ≡ fittings.is_scalar scalar wanted }
-{
-    match scalar {
-        Some(scalar) => scalar == wanted,
-        None => false,
-    }
 }
 
 #[tactic(auto, using(crate::proofs::FittingLaws::admitted))]

@@ -38,12 +38,21 @@ fn operation_at(operator: Operator, scalar: Option<Scalar>) -> Option<Operation>
     }
 }
 
+fn is_the_bool(scalar: Scalar) -> bool
+    ensures { result ≡ spec.is_bool (Some scalar) }
+{
+    match scalar {
+        Scalar::Bool => true,
+        _ => false,
+    }
+}
+
 fn is_bool(scalar: Option<Scalar>) -> bool
     ensures { result ≡ spec.is_bool scalar }
 {
     match scalar {
-        Some(Scalar::Bool) => true,
-        _ => false,
+        Some(scalar) => is_the_bool(scalar),
+        None => false,
     }
 }
 

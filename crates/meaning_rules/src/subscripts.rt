@@ -12,7 +12,7 @@ use crate::operators::is_missing;
 use crate::telling::{
     breaks, expr_in, node, of_one, of_two, scalar_value, small, three_parts, two_parts,
 };
-use crate::types::{copied, scalar_of, tuple_parts};
+use crate::types::{copied, is_scalar, scalar_of, tuple_parts};
 use crate::values::{fits_some, settled_as};
 use algopy_library::Scalar;
 use awst::{Expr, ExprKind, Index, Primitive};
@@ -31,12 +31,21 @@ pub fn a_number(into: &mut Notes, operand: Operand) -> Result<Option<Typed>, Mem
     fits_some(into, &number, typed)
 }
 
+fn hope_behind(scalar: Scalar) -> Hope
+    ensures { result ≡ spec.index_scalar (Some scalar) }
+{
+    match scalar {
+        Scalar::Bytes => Hope::Wants(SourceType::Scalar(Scalar::UInt64)),
+        _ => Hope::Free,
+    }
+}
+
 fn index_scalar(scalar: Option<Scalar>) -> Hope
     ensures { result ≡ spec.index_scalar scalar }
 {
     match scalar {
-        Some(Scalar::Bytes) => Hope::Wants(SourceType::Scalar(Scalar::UInt64)),
-        _ => Hope::Free,
+        Some(scalar) => hope_behind(scalar),
+        None => Hope::Free,
     }
 }
 
@@ -174,6 +183,25 @@ fn tuple_index(
 }
 
 #[tactic(auto, using(crate::proofs::Indexed::index_same))]
+fn scalar_index(
+    alloc: Global,
+    into: &mut Notes,
+    place: Place,
+    at: Place,
+    base: Typed,
+    scalar: Scalar,
+    index: Operand,
+) -> Result<Meaning, Memory>
+    ensures told { OnOk result (into.new ≡ into.old ++ (spec.index_of place at base (Some scalar) index).notes) }
+    ensures meaning { IfOk result (λ m. m ≡ (spec.index_of place at base (Some scalar) index).meaning) }
+{
+    match scalar {
+        Scalar::Bytes => byte_index(alloc, into, place, base, index),
+        _ => tuple_index(alloc, into, place, at, base, index),
+    }
+}
+
+#[tactic(auto, using(crate::proofs::Indexed::index_same))]
 fn index_as(
     alloc: Global,
     into: &mut Notes,
@@ -187,8 +215,8 @@ fn index_as(
     ensures meaning { IfOk result (λ m. m ≡ (spec.index_of place at base scalar index).meaning) }
 {
     match scalar {
-        Some(Scalar::Bytes) => byte_index(alloc, into, place, base, index),
-        _ => tuple_index(alloc, into, place, at, base, index),
+        Some(scalar) => scalar_index(alloc, into, place, at, base, scalar, index),
+        None => tuple_index(alloc, into, place, at, base, index),
     }
 }
 
@@ -321,6 +349,24 @@ fn no_slice(into: &mut Notes, place: Place, start: &End, stop: &End) -> Result<M
     }
 }
 
+fn scalar_slice(
+    alloc: Global,
+    into: &mut Notes,
+    place: Place,
+    base: Typed,
+    scalar: Scalar,
+    start: End,
+    stop: End,
+) -> Result<Meaning, Memory>
+    ensures told { OnOk result (into.new ≡ into.old ++ (spec.slice_of place base (Some scalar) start stop).notes) }
+    ensures meaning { IfOk result (λ m. m ≡ (spec.slice_of place base (Some scalar) start stop).meaning) }
+{
+    match scalar {
+        Scalar::Bytes => sliced(alloc, place, base, start, stop),
+        _ => no_slice(into, place, &start, &stop),
+    }
+}
+
 fn slice_of(
     alloc: Global,
     into: &mut Notes,
@@ -333,8 +379,8 @@ fn slice_of(
     ensures meaning { IfOk result (λ m. m ≡ (spec.slice_of place base (types.scalar_of base.ty) start stop).meaning) }
 {
     match scalar_of(&base.ty) {
-        Some(Scalar::Bytes) => sliced(alloc, place, base, start, stop),
-        _ => no_slice(into, place, &start, &stop),
+        Some(scalar) => scalar_slice(alloc, into, place, base, scalar, start, stop),
+        None => no_slice(into, place, &start, &stop),
     }
 }
 
@@ -390,7 +436,7 @@ pub fn is_bytes(typed: &Option<Typed>) -> bool
     ensures { result ≡ spec.is_bytes typed.now }
 {
     match typed {
-        Some(typed) => matches!(scalar_of(&typed.ty), Some(Scalar::Bytes)),
+        Some(typed) => is_scalar(scalar_of(&typed.ty), Scalar::Bytes),
         None => false,
     }
 }

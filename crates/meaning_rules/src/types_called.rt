@@ -10,7 +10,7 @@ use crate::meaning::{Lit, Meaning, Typed};
 use crate::telling::{breaks, of_one, scalar_value};
 use crate::types::scalar_of;
 use crate::values::lit_node;
-use algopy_library::Scalar;
+use algopy_library::{Scalar, has_truth};
 use awst::{ExprKind, Primitive};
 use path_rules::Notes;
 use puya_base::{Blob, Memory, Place, Rule};
@@ -62,6 +62,22 @@ fn of_literal(
     }
 }
 
+fn number_of_scalar(
+    alloc: Global,
+    into: &mut Notes,
+    place: Place,
+    typed: Typed,
+    scalar: Scalar,
+) -> Result<Meaning, Memory>
+    ensures told { OnOk result (into.new ≡ into.old ++ (spec.number_of_value place typed (Some scalar)).notes) }
+    ensures meaning { IfOk result (λ m. m ≡ (spec.number_of_value place typed (Some scalar)).meaning) }
+{
+    match scalar {
+        Scalar::Bool => of_one(alloc, place, Scalar::UInt64, Primitive::NumberOfBool, typed),
+        _ => breaks(into, Rule::P14, typed.expr.place),
+    }
+}
+
 fn number_of_value(
     alloc: Global,
     into: &mut Notes,
@@ -73,8 +89,25 @@ fn number_of_value(
     ensures meaning { IfOk result (λ m. m ≡ (spec.number_of_value place typed scalar).meaning) }
 {
     match scalar {
-        Some(Scalar::Bool) => of_one(alloc, place, Scalar::UInt64, Primitive::NumberOfBool, typed),
-        _ => breaks(into, Rule::P14, typed.expr.place),
+        Some(scalar) => number_of_scalar(alloc, into, place, typed, scalar),
+        None => breaks(into, Rule::P14, typed.expr.place),
+    }
+}
+
+fn truth_of_scalar(
+    alloc: Global,
+    into: &mut Notes,
+    place: Place,
+    typed: Typed,
+    scalar: Scalar,
+) -> Result<Meaning, Memory>
+    ensures told { OnOk result (into.new ≡ into.old ++ (spec.truth_when place typed (Some scalar)).notes) }
+    ensures meaning { IfOk result (λ m. m ≡ (spec.truth_when place typed (Some scalar)).meaning) }
+{
+    if has_truth(scalar) {
+        of_one(alloc, place, Scalar::Bool, Primitive::Truth, typed)
+    } else {
+        breaks(into, Rule::P14, typed.expr.place)
     }
 }
 
@@ -89,8 +122,7 @@ fn truth_when(
     ensures meaning { IfOk result (λ m. m ≡ (spec.truth_when place typed scalar).meaning) }
 {
     match scalar {
-        Some(Scalar::Account) => breaks(into, Rule::P14, typed.expr.place),
-        Some(_) => of_one(alloc, place, Scalar::Bool, Primitive::Truth, typed),
+        Some(scalar) => truth_of_scalar(alloc, into, place, typed, scalar),
         None => breaks(into, Rule::P14, typed.expr.place),
     }
 }

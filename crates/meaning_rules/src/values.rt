@@ -16,7 +16,7 @@ use source_names::{SourceType, same_type};
 use std::alloc::Global;
 
 #[tactic(auto, using(crate::proofs::Equalities::alike))]
-fn is_scalar(ty: &SourceType, scalar: Scalar) -> bool
+fn has_scalar(ty: &SourceType, scalar: Scalar) -> bool
     ensures { result ≡ types.same_type ty.now (SourceType.Scalar scalar) }
 {
     match ty {
@@ -30,9 +30,9 @@ fn is_of(ty: &SourceType, lit: &Lit) -> bool
     ensures { result ≡ types.same_type ty.now (spec.lit_type lit.now) }
 {
     match lit {
-        Lit::Number(_) => is_scalar(ty, Scalar::UInt64),
-        Lit::Text(_) => is_scalar(ty, Scalar::Text),
-        Lit::Bytes(_) => is_scalar(ty, Scalar::Bytes),
+        Lit::Number(_) => has_scalar(ty, Scalar::UInt64),
+        Lit::Text(_) => has_scalar(ty, Scalar::Text),
+        Lit::Bytes(_) => has_scalar(ty, Scalar::Bytes),
     }
 }
 
