@@ -10,9 +10,9 @@ use Rattle.meaning_rules.specs.declared.meaning.Typed.{Typed}
 use Rattle.meaning_rules.specs.declared.arguments.Known.{Known}
 use Rattle.meaning_rules.specs.declared.arguments.Known.TheVariants.{Value as value_at, Literal as literal_at}
 use Rattle.meaning_rules.specs.declared.fitting.Fitted.{Fitted as Written}
-use Rattle.meaning_rules.specs.Meanings.{Valued}
+use Rattle.meaning_rules.specs.Meanings.{Valued, is_scalar}
 use Rattle.meaning_rules.specs.Calls.{Fitted, fitted, and_fitted, both_exprs, expr_of, admits_scalar}
-use Rattle.meaning_rules.specs.Fittings.{is_scalar, nothing_yet, with_expr, number_of, argument_test, with_tested, as_written}
+use Rattle.meaning_rules.specs.Fittings.{nothing_yet, with_expr, number_of, argument_test, with_tested, as_written}
 
 -- ---- what a form admits
 

@@ -1,5 +1,5 @@
 -- Bytes that pairs of hexadecimal digits write, one behind another.
-use Rattle.std.proofs.Common.{◌≡◌, ℕ, ◌<◌, ◌+◌, ◌*◌, length, List, [], ◌∷◌, ◌++◌, Option, Some, None, refl, sym, ap, ◌∙◌, append_assoc, arith}
+use Rattle.std.proofs.Common.{◌≡◌, ℕ, ◌<◌, ◌+◌, ◌*◌, length, get_or, List, [], ◌∷◌, ◌++◌, Option, Some, None, refl, sym, ap, ◌∙◌, append_assoc, arith}
 use Rattle.std.proofs.lemmas.List.{append-nil}
 use Rattle.puya_base.specs.declared.source.Place.{Place}
 use Rattle.puya_base.specs.declared.source.Rule.TheVariants as rule
@@ -49,10 +49,16 @@ pub call_hex-one : (p : Place) (ks : List Known) (k : Known) → ks ≡ k ∷ []
 call_hex-one p ks (value_at i t) e = ap (call_hex p) e
 call_hex-one p ks (literal_at i q l) e = ap (call_hex p) e
 
+pub call_hex-at : (p : Place) (ks : List Known) (k : Known) → length ks ≡ 1 → k ≡ get_or ks 0 k → call_hex p ks ≡ hex_known p k
+call_hex-at p [] k h e = absurd (omega arith)
+call_hex-at p (value_at i t ∷ []) k h e = ap (hex_known p) (sym e)
+call_hex-at p (literal_at i q l ∷ []) k h e = ap (hex_known p) (sym e)
+call_hex-at p (x ∷ y ∷ ks) k h e = absurd (omega arith)
+
 pub call_hex-other : (p : Place) (ks : List Known) → (length ks ≡ 1 → ⊥) → call_hex p ks ≡ breaks rule.P15 p
 call_hex-other p [] n = refl
 call_hex-other p (k ∷ []) n = absurd (n refl)
 call_hex-other p (value_at i t ∷ m ∷ ks) n = refl
 call_hex-other p (literal_at i q l ∷ m ∷ ks) n = refl
 
-pub ruleset called = (call_hex-one, call_hex-other)
+pub ruleset called = (call_hex-one, call_hex-at, call_hex-other)

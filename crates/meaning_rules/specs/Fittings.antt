@@ -1,19 +1,13 @@
 -- Arguments that fit, one after another: what stands of them so far.
-use Rattle.std.specs.Prelude.{ℕ, Bool, true, false, List, [], ◌∷◌, ◌++◌, Option, Some, None}
+use Rattle.std.specs.Prelude.{ℕ, List, [], ◌∷◌, ◌++◌, Option, Some, None}
 use Rattle.puya_base.specs.declared.source.Rule.TheVariants as rule
 use Rattle.awst.specs.declared.expression.Expr.{Expr}
-use Rattle.algopy_library.specs.declared.scalar.Scalar.{Scalar}
-use Rattle.source_names.specs.Types.{same_scalar}
 use Rattle.meaning_rules.specs.declared.meaning.Typed.{Typed}
 use Rattle.meaning_rules.specs.declared.arguments.Known.{Known}
 use Rattle.meaning_rules.specs.declared.arguments.Known.TheVariants.{Value as value_at, Literal as literal_at}
 use Rattle.meaning_rules.specs.declared.fitting.Fitted.{Fitted as Written}
 use Rattle.meaning_rules.specs.Meanings.{Valued, value_breaks}
 use Rattle.meaning_rules.specs.Calls.{Fitted}
-
-abbrev pub is_scalar : Option Scalar → Scalar → Bool
-is_scalar None s = false
-is_scalar (Some t) s = same_scalar t s
 
 abbrev pub nothing_yet : Written
 nothing_yet = record { exprs = Some []; order = [] }

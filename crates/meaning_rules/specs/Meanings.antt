@@ -80,6 +80,10 @@ value_breaks r p = record { notes = broken r p ∷ []; typed = None }
 abbrev pub a_typed : Typed → Valued
 a_typed t = record { notes = []; typed = Some t }
 
+abbrev pub is_scalar : Option Scalar → Scalar → Bool
+is_scalar None s = false
+is_scalar (Some t) s = same_scalar t s
+
 -- ---- literals
 
 abbrev pub lit_type : Lit → SourceType

@@ -55,7 +55,6 @@ use Rattle.meaning_rules.specs.declared.operand.Operand.TheVariants.{Value as a_
 use Rattle.meaning_rules.specs.declared.operand.End.{End}
 use Rattle.meaning_rules.specs.declared.operand.End.TheVariants.{Absent as no_end, Number as an_end, Broken as broken_end}
 use Rattle.meaning_rules.specs.Meanings.{Judged, Valued, Operated, broken, broken_all, unknown, breaks, says, after, a_node, node, no_value, value_breaks, a_typed, literal, lit_node, lit_type, operand_of, settled, value, fits_type, required, hoped, context, freely, part_hope, whole_hope, condition}
-use Rattle.meaning_rules.specs.Calls as calls
 
 -- ---- literals
 

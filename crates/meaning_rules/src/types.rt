@@ -2,7 +2,7 @@
 
 ghost use Rattle.std.specs.Prelude.{◌≡◌, map, None, Some, IfOk, MatchOption};
 ghost use Rattle.source_names.specs.Types as spec;
-ghost use Rattle.meaning_rules.specs.Fittings as fittings;
+ghost use Rattle.meaning_rules.specs.Meanings as meanings;
 
 use algopy_library::Scalar;
 use awst::{Ty, Tys};
@@ -23,7 +23,7 @@ pub(crate) fn scalar_of(ty: &SourceType) -> Option<Scalar>
 
 /// Whether it is this scalar.
 pub(crate) fn is_scalar(scalar: Option<Scalar>, wanted: Scalar) -> bool
-    ensures { result ≡ fittings.is_scalar scalar wanted }
+    ensures { result ≡ meanings.is_scalar scalar wanted }
 {
     match scalar {
         Some(scalar) => scalar == wanted,
