@@ -33,8 +33,7 @@ use Rattle.source_names.specs.Types.{typed, same_type, scalar_of, tuple_parts, f
 use Rattle.source_names.specs.Literals.{number_of, joined, is_short}
 use Rattle.source_names.specs.Things.{Found, module_name, member_of, behind}
 use Rattle.source_names.specs.Headers.{is_myself}
-use Rattle.source_names.specs.Source.{Between, does, and_then, or_else, is_in, Ex, name, number, text, bytes, flag, paren, tuple, display, index, slice, call, unary, binary, choose, Exs, no_exprs, an_expr, Maybe, absent, present, Args, no_args, an_arg, place_of}
-use Rattle.source_names.specs.Source as source
+use Rattle.source_names.specs.Source.{Between, does, and_then, or_else, is_in}
 use Rattle.meaning_rules.specs.declared.meaning.Hope.{Hope}
 use Rattle.meaning_rules.specs.declared.meaning.Hope.TheVariants as hope
 use Rattle.meaning_rules.specs.declared.meaning.Expect.{Expect}
