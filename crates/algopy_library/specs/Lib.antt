@@ -1,5 +1,0 @@
-pub mod Tables
-pub mod Packages
-pub mod Forms
-pub mod Operators
-pub mod Members
