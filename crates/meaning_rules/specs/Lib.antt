@@ -4,8 +4,3 @@ pub mod Operations
 pub mod Betweens
 pub mod Indexes
 pub mod Reads
-pub mod Callees
-pub mod Fittings
-pub mod Callings
-pub mod Hexes
-pub mod Ranges

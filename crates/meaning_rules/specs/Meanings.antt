@@ -30,8 +30,8 @@ use Rattle.meaning_rules.specs.declared.meaning.Lit.TheVariants as lit
 use Rattle.meaning_rules.specs.declared.meaning.Range.{Range}
 use Rattle.meaning_rules.specs.declared.meaning.Meaning.{Meaning}
 use Rattle.meaning_rules.specs.declared.meaning.Meaning.TheVariants as meaning
-use Rattle.meaning_rules.specs.declared.operand.Operand.{Operand}
-use Rattle.meaning_rules.specs.declared.operand.Operand.TheVariants.{Value as a_value, Literal as a_literal, Missing as missing}
+pub use Rattle.meaning_rules.specs.declared.operand.Operand.{Operand}
+pub use Rattle.meaning_rules.specs.declared.operand.Operand.TheVariants.{Value as a_value, Literal as a_literal, Missing as missing}
 
 -- what is said of an expression
 pub record Judged : Type 0 where
