@@ -1,12 +1,12 @@
 -- Summaries of arms, of an `if` and of a loop.
-use Rattle.std.proofs.Common.{◌≡◌, ℕ, Bool, true, false, List, ◌++◌, [], ◌∷◌, refl, sym, ◌∙◌, ap, subst}
+use Rattle.std.proofs.Common.{◌≡◌, ℕ, Bool, List, ◌++◌, [], ◌∷◌, sym, ◌∙◌, ap, subst}
 use Rattle.std.specs.Prelude.{if◌then◌else◌, IfOk, Result, Ok, Err}
 use Rattle.puya_base.specs.declared.memory.Memory.{Memory}
 use Rattle.path_rules.specs.declared.summary.Exits.{Exits}
 use Rattle.path_rules.specs.declared.summary.Effect.{Effect}
 use Rattle.path_rules.specs.declared.summary.Summary.{Summary}
 use Rattle.path_rules.specs.declared.summary.Frame.TheVariants.{Arm, If, Loop}
-use Rattle.path_rules.specs.Steps.{Step, Steps, one, before, arm, choice, loop, an_end, an_arm, a_loop}
+use Rattle.path_rules.specs.Steps.{Steps, one, before, arm, choice, an_end, an_arm, a_loop}
 use Rattle.path_rules.specs.Summaries.{plain, naming, exits_at_end, only_goes, summary_behind, summary_in_frame}
 use Rattle.path_rules.specs.Describes.{Describes, Together, TogetherWith}
 use Rattle.path_rules.proofs.Describing.{describes_behind, describes_in_frame}

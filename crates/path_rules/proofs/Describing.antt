@@ -1,22 +1,18 @@
 -- Summaries of steps that are put together.
-use Rattle.std.proofs.Common.{◌≡◌, ℕ, ◌⊎◌, inl, inr, Bool, true, false, not, List, [], ◌∷◌, ◌++◌, map, Option, Some, None, refl, sym, ◌∙◌, ap, subst, arith}
-use Rattle.std.specs.Prelude.{◌==◌, if◌then◌else◌}
-use Rattle.std.proofs.lemmas.Bool.{true≢false, false≢true, not-true, not_from_false, cond-true, cond-false, cond_both}
-use Rattle.puya_base.specs.declared.source.Place.{Place}
-use Rattle.puya_base.specs.declared.source.Refusal.{Refusal}
+use Rattle.std.proofs.Common.{◌≡◌, ℕ, ◌⊎◌, inl, inr, Bool, true, false, not, Some, sym, subst}
+use Rattle.std.proofs.lemmas.Bool.{true≢false, false≢true, not-true, not_from_false}
 use Rattle.path_rules.specs.declared.summary.Exits.{Exits}
 use Rattle.path_rules.specs.declared.summary.Endings.{Endings}
 use Rattle.path_rules.specs.declared.summary.Effect.{Effect}
 use Rattle.path_rules.specs.declared.summary.Summary.{Summary}
 use Rattle.path_rules.specs.declared.summary.Frame.{Frame}
 use Rattle.path_rules.specs.declared.summary.Frame.TheVariants.{Arm, If, Loop}
-use Rattle.path_rules.specs.Steps.{Step, broken, read, assign, forget, arm, choice, may_end, loop, break, continue, return, Steps, no_steps, a_step, one, before}
-use Rattle.path_rules.specs.Walks.{Exit, goes, leaves, breaks, continues, Way, out, returns, at, is_on, behind_arm, behind_if, behind_loop, set_to, Walk, past_fault, at_read, past_read, assigns, forgets, done, passed, chosen, ends, stays, turns, broken_off, continued, returned, Walks, ended, stopped, went_on, last_turn}
-use Rattle.path_rules.specs.Rules.{IsNotAfter}
-use Rattle.path_rules.specs.Summaries.{no_exits, no_endings, untouched, either, given, halted, endings_behind, behind, others_behind, merged, arm_endings, if_endings, loop_endings, comes_back, loop_effect, in_frame, others_in_frame, touched_in_frame, effect_in, effect_of, endings_from, only_goes, summary_behind, summary_in_frame, plain, naming, read_effect, assign_effect, forget_effect}
-use Rattle.path_rules.specs.Describes.{has, AreEndings, Ends, IsOut, GetsOut, Describes, Together, TogetherWith, step_in}
-use Rattle.path_rules.proofs.WalkLaws.{stop_before, on_before, Split, split, one_to, one_from, more, from_any, LastTurn, ComesBack, TurnsOnce, into_last, loop_from, loop_to, loop_ends, arm_cases, if_cases}
-use Rattle.path_rules.proofs.EndingLaws.{endings_iff, endings_either, endings_none, endings_given, endings_behind_are, same_exit, arm_are, if_are, loop_are, back_to, back_from}
+use Rattle.path_rules.specs.Steps.{arm, choice, loop, Steps, one, before}
+use Rattle.path_rules.specs.Walks.{goes, leaves, breaks, continues, Way, out, returns, at, is_on, behind_arm, behind_if, behind_loop, done, passed, chosen, turns, Walks, last_turn}
+use Rattle.path_rules.specs.Summaries.{untouched, given, endings_behind, behind, arm_endings, if_endings, loop_endings, comes_back, loop_effect, in_frame, others_in_frame, effect_of, endings_from, summary_behind, summary_in_frame}
+use Rattle.path_rules.specs.Describes.{AreEndings, Ends, IsOut, GetsOut, Describes, step_in}
+use Rattle.path_rules.proofs.WalkLaws.{stop_before, on_before, Split, split, one_to, one_from, more, from_any, LastTurn, into_last, loop_from, loop_to, loop_ends, arm_cases, if_cases}
+use Rattle.path_rules.proofs.EndingLaws.{endings_iff, endings_either, endings_none, endings_given, endings_behind_are, arm_are, if_are, loop_are, back_to, back_from}
 use Rattle.path_rules.proofs.MergeLaws.{merged_rises, merged_at, untouched_behind, frame_rises, frame_at}
 
 -- ---- one piece behind another

@@ -1,5 +1,5 @@
 -- Endings of ways that are put together.
-use Rattle.std.proofs.Common.{◌≡◌, ℕ, ◌<◌, ◌≤◌, ◌⊎◌, inl, inr, Bool, true, false, not, Option, Some, None, refl, sym, ◌∙◌, ap, subst, arith}
+use Rattle.std.proofs.Common.{◌≡◌, ◌⊎◌, inl, inr, Bool, true, false, Some, None, refl, sym, ◌∙◌, subst, arith}
 use Rattle.std.specs.Prelude.{◌||◌, if◌then◌else◌, ◌==◌, nat_lt}
 use Rattle.std.proofs.lemmas.Bool.{false≢true, or_cases, or_left, or_right, ltb-true, ltb-false, eqb-true, eqb-false}
 use Rattle.puya_base.specs.declared.source.Place.{Place}
@@ -7,7 +7,7 @@ use Rattle.path_rules.specs.declared.summary.Exits.{Exits}
 use Rattle.path_rules.specs.declared.summary.Endings.{Endings}
 use Rattle.path_rules.specs.declared.summary.Effect.{Effect}
 use Rattle.path_rules.specs.Walks.{Exit, goes, leaves, breaks, continues, Way, out, returns, at, is_on, behind_arm, behind_if, behind_loop}
-use Rattle.path_rules.specs.Rules.{IsLeast, IsNotAfter}
+use Rattle.path_rules.specs.Rules.{IsNotAfter}
 use Rattle.path_rules.specs.Order.{is_before}
 use Rattle.path_rules.specs.Summaries.{no_exits, no_endings, either_exits, either, given, halted, endings_behind, arm_endings, if_endings, loop_endings, comes_back}
 use Rattle.path_rules.specs.Describes.{has, AreEndings}

@@ -1,13 +1,13 @@
 -- The steps of each kind of note.
-use Rattle.std.proofs.Common.{◌≡◌, ◌∙◌, ℕ, Bool, List, map, refl, ap, sym}
+use Rattle.std.proofs.Common.{◌≡◌, ◌∙◌, ℕ, Bool, List, ap, sym}
 use Rattle.puya_base.specs.declared.source.Place.{Place}
 use Rattle.puya_base.specs.declared.source.Refusal.{Refusal}
 use Rattle.path_rules.specs.declared.note.Note.{Note}
 use Rattle.path_rules.specs.declared.note.NoteArm.{NoteArm}
 use Rattle.path_rules.specs.declared.note.Note.TheVariants as note
-use Rattle.path_rules.specs.declared.note.Note.TheOpen.{Note-F, NoteArm-F}
-use Rattle.path_rules.specs.declared.note.Note.TheFolds.{fold-Note, fold-roll-Note, fold_out-NoteArm}
-use Rattle.path_rules.specs.Steps.{Step, broken, read, assign, forget, arm, choice, loop, break, continue, return, Steps, one, before, steps_in, an_arm, an_if, a_loop, note_layer, arm_layer, step_of, arm_of, steps_of, arms_of}
+use Rattle.path_rules.specs.declared.note.Note.TheOpen.{Note-F}
+use Rattle.path_rules.specs.declared.note.Note.TheFolds.{fold-roll-Note, fold_out-NoteArm}
+use Rattle.path_rules.specs.Steps.{Step, broken, read, assign, forget, break, continue, return, Steps, an_arm, an_if, a_loop, note_layer, arm_layer, step_of, arm_of, steps_of, arms_of}
 
 pub step-Broken : (r : Refusal) → step_of (note.Broken r) ≡ broken r
 step-Broken r = ap step_of (sym (note.rolls-Broken r)) ∙ fold-roll-Note Step Steps note_layer arm_layer (Note-F.Broken r)

@@ -1,7 +1,7 @@
 -- The first broken rule of a function, from its summary and from what is told.
-use Rattle.std.proofs.Common.{◌≡◌, ℕ, suc, ◌<◌, ◌≤◌, ◌⊎◌, inl, inr, Bool, true, false, List, [], ◌∷◌, Option, Some, None, refl, sym, ◌∙◌, ap, subst, arith}
-use Rattle.std.specs.Prelude.{if◌then◌else◌, ◌==◌}
-use Rattle.std.proofs.lemmas.Bool.{false≢true, true≢false, eq-eqb, ne_eqb, cond-true, cond-false, cases_order}
+use Rattle.std.proofs.Common.{◌≡◌, ℕ, suc, ◌<◌, ◌≤◌, ◌⊎◌, inl, inr, Bool, true, false, List, [], ◌∷◌, Option, Some, None, refl, sym, subst, arith}
+use Rattle.std.specs.Prelude.{◌==◌}
+use Rattle.std.proofs.lemmas.Bool.{false≢true, eq-eqb, ne_eqb, cond-true, cond-false, cases_order}
 use Rattle.puya_base.specs.declared.source.Place.{Place}
 use Rattle.puya_base.specs.declared.source.Refusal.{Refusal}
 use Rattle.puya_base.specs.declared.source.Rule.{Rule}
@@ -11,10 +11,10 @@ use Rattle.path_rules.specs.declared.summary.Exits.{Exits}
 use Rattle.path_rules.specs.declared.summary.Summary.{Summary}
 use Rattle.path_rules.specs.declared.summary.Touched.{Touched}
 use Rattle.path_rules.specs.Steps.{Steps, steps_of}
-use Rattle.path_rules.specs.Walks.{goes, out, at, Walks}
-use Rattle.path_rules.specs.Rules.{refused, TellAll, IsReadUnassigned, IsEndReached, Breaks, told, unassigned, no_return, IsNotAfter, number_of, ComesFirst, IsLeast, IsFirst, IsBroken}
+use Rattle.path_rules.specs.Walks.{goes, at, Walks}
+use Rattle.path_rules.specs.Rules.{refused, TellAll, IsReadUnassigned, IsEndReached, Breaks, told, unassigned, no_return, IsNotAfter, ComesFirst, IsLeast, IsFirst, IsBroken}
 use Rattle.path_rules.specs.Order.{is_before, precedes, earlier_place, earlier_refusal}
-use Rattle.path_rules.specs.Summaries.{untouched, Rises, effect_in, effect_of}
+use Rattle.path_rules.specs.Summaries.{Rises, effect_in}
 use Rattle.path_rules.specs.Describes.{Describes}
 use Rattle.path_rules.specs.Told.{told_by_all, first_read, refused_at, where_it_holds}
 use Rattle.path_rules.proofs.Firsts.{least_iff, least_either}

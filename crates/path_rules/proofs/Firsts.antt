@@ -1,9 +1,8 @@
 -- The least of what two predicates have.
-use Rattle.std.proofs.Common.{◌≡◌, ℕ, ◌<◌, ◌≤◌, ◌⊎◌, inl, inr, Bool, true, false, Option, Some, None, refl, sym, ◌∙◌, ap, arith}
-use Rattle.std.specs.Prelude.{if◌then◌else◌, ◌==◌, nat_lt}
-use Rattle.puya_base.specs.declared.source.Place.{Place}
-use Rattle.path_rules.specs.Rules.{IsLeast, IsNotAfter}
-use Rattle.path_rules.specs.Order.{earlier, is_before}
+use Rattle.std.proofs.Common.{◌≡◌, ◌⊎◌, inl, inr, Bool, true, false, Option, Some, None, refl}
+use Rattle.std.specs.Prelude.{if◌then◌else◌}
+use Rattle.path_rules.specs.Rules.{IsLeast}
+use Rattle.path_rules.specs.Order.{earlier}
 
 -- the test tells the order
 pub record IsTest {A : Type 0} (first : A → A → Type 0) (test : A → A → Bool) : Type 0 where

@@ -1,5 +1,5 @@
 -- Summaries of single steps.
-use Rattle.std.proofs.Common.{◌≡◌, ℕ, ◌≤◌, ◌⊎◌, inl, inr, Bool, true, false, Option, Some, None, refl, sym, ◌∙◌, ap, subst, arith}
+use Rattle.std.proofs.Common.{◌≡◌, ℕ, ◌⊎◌, inl, inr, Bool, true, false, None, refl, sym, ◌∙◌, subst, arith}
 use Rattle.std.specs.Prelude.{◌==◌, if◌then◌else◌}
 use Rattle.std.proofs.lemmas.Bool.{true≢false, false≢true, cond-true, cond-false, cond_both}
 use Rattle.puya_base.specs.declared.source.Place.{Place}
@@ -7,11 +7,11 @@ use Rattle.puya_base.specs.declared.source.Refusal.{Refusal}
 use Rattle.path_rules.specs.declared.summary.Exits.{Exits}
 use Rattle.path_rules.specs.declared.summary.Endings.{Endings}
 use Rattle.path_rules.specs.declared.summary.Effect.{Effect}
-use Rattle.path_rules.specs.Steps.{Step, broken, read, assign, forget, may_end, break, continue, return, Steps, one, no_steps, an_end}
+use Rattle.path_rules.specs.Steps.{Step, broken, read, assign, forget, may_end, break, continue, return, one, an_end}
 use Rattle.path_rules.specs.Walks.{Exit, goes, leaves, breaks, continues, Way, out, returns, at, set_to, Walk, past_fault, at_read, past_read, assigns, forgets, ends, stays, broken_off, continued, returned}
 use Rattle.path_rules.specs.Rules.{IsNotAfter}
 use Rattle.path_rules.specs.Summaries.{no_exits, no_endings, untouched, endings_from, only_goes, exits_at_end, only_breaks, only_continues, plain, naming, read_effect, assign_effect, forget_effect}
-use Rattle.path_rules.specs.Describes.{has, AreEndings, Ends, IsOut, GetsOut, Describes}
+use Rattle.path_rules.specs.Describes.{has, AreEndings, Ends, Describes}
 use Rattle.path_rules.proofs.WalkLaws.{one_to, one_from}
 use Rattle.path_rules.proofs.EndingLaws.{endings_iff, endings_none, none_has, same_exit}
 use Rattle.path_rules.proofs.TogetherLaws.{only_has, describes_nothing}

@@ -1,6 +1,6 @@
 -- What the calls on the parts of a note give for the note.
-use Rattle.std.proofs.Common.{◌≡◌, ℕ, suc, ◌+◌, ◌<◌, ◌≤◌, Bool, true, false, List, [], ◌∷◌, ◌++◌, map, length, get_or, drop, drop-cons, add-one, Option, Some, None, refl, sym, ◌∙◌, ap, subst, arith}
-use Rattle.std.specs.Prelude.{IfOk, Result, Ok, Err}
+use Rattle.std.proofs.Common.{◌≡◌, ℕ, suc, ◌+◌, ◌<◌, ◌≤◌, Bool, true, List, [], ◌∷◌, ◌++◌, length, get_or, drop, drop-cons, add-one, Option, Some, refl, sym, ◌∙◌, ap, subst}
+use Rattle.std.specs.Prelude.{IfOk, Result}
 use Rattle.std.proofs.Math.ListN.{drop_of_length-le}
 use Rattle.puya_base.specs.declared.memory.Memory.{Memory}
 use Rattle.puya_base.specs.declared.source.Place.{Place}
@@ -9,7 +9,7 @@ use Rattle.path_rules.specs.declared.note.Note.{Note}
 use Rattle.path_rules.specs.declared.note.NoteArm.{NoteArm}
 use Rattle.path_rules.specs.declared.note.Note.TheVariants as note
 use Rattle.path_rules.specs.declared.summary.Summary.{Summary}
-use Rattle.path_rules.specs.Steps.{Step, choice, broken, read, assign, forget, break, continue, return, Steps, no_steps, a_step, one, before, in_turn, an_arm, an_if, a_loop, step_of, steps_of, arm_of, arms_of}
+use Rattle.path_rules.specs.Steps.{Step, choice, broken, read, assign, forget, break, continue, return, Steps, no_steps, one, before, in_turn, an_arm, an_if, a_loop, step_of, steps_of, arm_of, arms_of}
 use Rattle.path_rules.specs.Describes.{Describes, Together, TogetherWith, DescribesFault, DescribesBreak, DescribesContinue, DescribesReturn}
 use Rattle.path_rules.specs.Told.{loop_word, told_by, told_by_all}
 use Rattle.path_rules.specs.Order.{earlier_refusal}

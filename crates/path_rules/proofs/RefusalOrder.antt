@@ -1,11 +1,11 @@
 -- The order of refusals and its test.
-use Rattle.std.proofs.Common.{◌≡◌, ℕ, ◌<◌, ◌≤◌, ◌⊎◌, inl, inr, Bool, true, false, refl, sym, ◌∙◌, ap, subst, arith}
+use Rattle.std.proofs.Common.{◌≡◌, ℕ, inl, inr, Bool, true, false, refl, sym, ◌∙◌, ap, subst, arith}
 use Rattle.std.specs.Prelude.{if◌then◌else◌, ◌==◌, nat_lt}
 use Rattle.std.proofs.lemmas.Bool.{ltb-true, ltb-false, eqb-true, eqb-false}
 use Rattle.puya_base.specs.declared.source.Place.{Place}
 use Rattle.puya_base.specs.declared.source.Refusal.{Refusal}
 use Rattle.path_rules.specs.Rules.{number_of, IsNotAfter, ComesFirst}
-use Rattle.path_rules.specs.Order.{is_before, precedes}
+use Rattle.path_rules.specs.Order.{precedes}
 use Rattle.path_rules.proofs.Firsts.{IsTest}
 use Rattle.path_rules.proofs.EndingLaws.{place_test}
 

@@ -3,12 +3,11 @@ use Rattle.std.specs.Prelude.{MatchOption, option_to_list}
 use Rattle.std.proofs.Common.{◌≡◌, ℕ, ◌+◌, ◌*◌, ◌<◌, ◌≤◌, length, length-append, arith, Bool, true, false, List, [], ◌∷◌, ◌++◌, reverse, Option, Some, None, refl, sym, ◌∙◌, ap, subst, append_assoc}
 use Rattle.std.proofs.lemmas.List.{reverse-append}
 use Rattle.std.proofs.lemmas.Bool.{true≢false, false≢true}
-use Rattle.path_rules.specs.declared.summary.Exits.{Exits}
 use Rattle.path_rules.specs.declared.summary.Summary.{Summary}
-use Rattle.path_rules.specs.Steps.{Step, Steps, no_steps, a_step, one, before}
-use Rattle.path_rules.specs.Walks.{Exit, goes, leaves, breaks, continues, Way, out, returns, at, Walks, ended}
+use Rattle.path_rules.specs.Steps.{Steps, no_steps, a_step, before}
+use Rattle.path_rules.specs.Walks.{Exit, goes, leaves, breaks, continues, Way, out, at, Walks, ended}
 use Rattle.path_rules.specs.Summaries.{untouched, endings_from, only_goes, plain, summary_behind, both_or_one}
-use Rattle.path_rules.specs.Describes.{has, AreEndings, Ends, IsOut, GetsOut, Describes, Together, TogetherWith}
+use Rattle.path_rules.specs.Describes.{has, AreEndings, Ends, Describes, Together, TogetherWith}
 use Rattle.path_rules.proofs.EndingLaws.{endings_none, same_exit}
 use Rattle.path_rules.proofs.Describing.{describes_behind}
 

@@ -1,12 +1,11 @@
 -- What is told of steps, one behind another, and that it is the first.
-use Rattle.std.proofs.Common.{◌≡◌, ℕ, ◌⊎◌, inl, inr, Bool, true, false, List, [], ◌∷◌, Option, Some, None, refl, sym, ◌∙◌, ap, subst}
-use Rattle.std.specs.Prelude.{if◌then◌else◌}
+use Rattle.std.proofs.Common.{◌≡◌, ◌⊎◌, inl, inr, Bool, true, false, Option, Some, None, refl, ◌∙◌, ap, subst}
 use Rattle.puya_base.specs.declared.source.Place.{Place}
 use Rattle.puya_base.specs.declared.source.Refusal.{Refusal}
 use Rattle.puya_base.specs.declared.source.Rule.TheVariants.{P19}
-use Rattle.path_rules.specs.Steps.{Step, broken, read, assign, forget, arm, choice, may_end, loop, break, continue, return, Steps, no_steps, a_step, one, before, an_end, an_arm, a_loop, in_turn}
-use Rattle.path_rules.specs.Rules.{refused, Tells, TellAll, ComesFirst, IsLeast, IsFirst}
-use Rattle.path_rules.specs.Order.{earlier, precedes, earlier_refusal}
+use Rattle.path_rules.specs.Steps.{Step, broken, read, assign, forget, arm, choice, may_end, loop, break, continue, return, Steps, no_steps, a_step, one, before, an_end, an_arm, a_loop}
+use Rattle.path_rules.specs.Rules.{refused, Tells, TellAll, ComesFirst, IsFirst}
+use Rattle.path_rules.specs.Order.{precedes, earlier_refusal}
 use Rattle.path_rules.specs.Told.{loop_word, told_by, told_by_all}
 use Rattle.path_rules.proofs.Firsts.{least_iff, least_either}
 use Rattle.path_rules.proofs.RefusalOrder.{refusal_test, comes_itself}

@@ -1,9 +1,8 @@
 -- Laws of walks.
-use Rattle.std.proofs.Common.{◌≡◌, ℕ, ◌⊎◌, inl, inr, Bool, true, false, Option, Some, None, refl, sym, ◌∙◌, ap, subst}
+use Rattle.std.proofs.Common.{◌≡◌, ℕ, ◌⊎◌, inl, inr, Bool, true, false, Some, None, refl, sym, ◌∙◌, ap, subst}
 use Rattle.std.specs.Prelude.{if◌then◌else◌, ◌==◌}
-use Rattle.puya_base.specs.declared.source.Place.{Place}
-use Rattle.path_rules.specs.Steps.{Step, broken, read, assign, forget, arm, choice, may_end, loop, break, continue, return, Steps, no_steps, a_step, one, before}
-use Rattle.path_rules.specs.Walks.{Exit, goes, leaves, breaks, continues, Way, out, returns, at, is_on, behind_arm, behind_if, behind_loop, set_to, Walk, past_fault, at_read, past_read, assigns, forgets, done, passed, chosen, ends, stays, turns, broken_off, continued, returned, Walks, ended, stopped, went_on, Turns, last_turn, next_turn}
+use Rattle.path_rules.specs.Steps.{Step, assign, forget, arm, choice, loop, Steps, no_steps, a_step, one, before}
+use Rattle.path_rules.specs.Walks.{goes, leaves, breaks, continues, Way, out, returns, at, is_on, behind_arm, behind_if, behind_loop, set_to, Walk, past_fault, at_read, past_read, assigns, forgets, done, passed, chosen, ends, stays, turns, broken_off, continued, returned, Walks, ended, stopped, went_on, Turns, last_turn, next_turn}
 
 pub not_both : true ≡ false → ⊥
 not_both e = cc

@@ -1,5 +1,5 @@
 -- One step of a merge.
-use Rattle.std.specs.Prelude.{ℕ, if◌then◌else◌, nat_lt}
+use Rattle.std.specs.Prelude.{if◌then◌else◌, nat_lt}
 use Rattle.path_rules.specs.declared.summary.Exits.{Exits}
 use Rattle.path_rules.specs.declared.summary.Touched.{Touched}
 use Rattle.path_rules.specs.declared.merging.Next.{Next}

@@ -1,5 +1,5 @@
 -- The earlier of two places, and of two refusals.
-use Rattle.std.specs.Prelude.{ℕ, ◌==◌, Bool, true, false, if◌then◌else◌, nat_lt, Option, Some, None}
+use Rattle.std.specs.Prelude.{◌==◌, Bool, if◌then◌else◌, nat_lt, Option, Some, None}
 use Rattle.puya_base.specs.declared.source.Place.{Place}
 use Rattle.puya_base.specs.declared.source.Refusal.{Refusal}
 use Rattle.path_rules.specs.Rules.{number_of}

@@ -6,7 +6,7 @@ use Rattle.puya_base.specs.declared.source.Rule.{Rule}
 use Rattle.puya_base.specs.declared.source.Rule.TheVariants.{P01, P02, P03, P04, P05, P06, P07, P08, P09, P10, P11, P12, P13, P14, P15, P16, P17, P18, P19, P20, P21, P22, P23, P24, P25}
 use Rattle.path_rules.specs.declared.note.Note.{Note}
 use Rattle.path_rules.specs.Steps.{Step, broken, read, assign, forget, arm, choice, may_end, loop, break, continue, return, Steps, no_steps, a_step, steps_of}
-use Rattle.path_rules.specs.Walks.{Exit, goes, leaves, breaks, continues, Way, out, returns, at, Walks}
+use Rattle.path_rules.specs.Walks.{goes, out, at, Walks}
 
 abbrev pub refused : Rule → Place → Refusal
 refused rule place = record { rule = rule; place = place }

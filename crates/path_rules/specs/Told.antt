@@ -1,9 +1,9 @@
 -- The first of what steps tell as broken wherever it stands, and of the reads that a summary has.
-use Rattle.std.specs.Prelude.{ℕ, Bool, true, false, if◌then◌else◌, List, [], ◌∷◌, Option, Some, None}
+use Rattle.std.specs.Prelude.{Bool, true, if◌then◌else◌, List, [], ◌∷◌, Option, Some, None}
 use Rattle.puya_base.specs.declared.source.Place.{Place}
 use Rattle.puya_base.specs.declared.source.Refusal.{Refusal}
 use Rattle.puya_base.specs.declared.source.Rule.{Rule}
-use Rattle.puya_base.specs.declared.source.Rule.TheVariants.{P17, P18, P19}
+use Rattle.puya_base.specs.declared.source.Rule.TheVariants.{P19}
 use Rattle.path_rules.specs.declared.summary.Touched.{Touched}
 use Rattle.path_rules.specs.Steps.{Step, broken, read, assign, forget, arm, choice, may_end, loop, break, continue, return, Steps, no_steps, a_step}
 use Rattle.path_rules.specs.Rules.{refused}
