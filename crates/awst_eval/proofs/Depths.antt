@@ -1,5 +1,5 @@
 -- How deep the statements of a contract's functions are: a call goes one level down, whatever the depth of the function's body.
-use Rattle.std.proofs.Common.{◌≡◌, ℕ, zero, suc, ◌+◌, ◌*◌, ◌<◌, ◌≤◌, max, map, List, [], ◌∷◌, Option, Some, None, slice_get, arith, subst}
+use Rattle.std.proofs.Common.{◌≡◌, ℕ, zero, suc, ◌+◌, ◌-◌, ◌*◌, ◌<◌, ◌≤◌, max, map, List, [], ◌∷◌, Option, Some, None, slice_get, arith, subst}
 use Rattle.awst.specs.declared.expression.Expr.{Expr, size-Expr}
 use Rattle.awst.specs.declared.statement.Stmt.{Stmt}
 use Rattle.awst.specs.declared.statement.StmtKind.{StmtKind}
@@ -81,3 +81,7 @@ unfolding level
 lower n m s fs h g =
     let e : (m + 1) * (8 * deepest fs + 16) ≡ m * (8 * deepest fs + 16) + (8 * deepest fs + 16) = omega arith in
     rw h (rw e (omega arith))
+
+-- a call is below what calls it
+pub called_lower : (clock f : ℕ) (fs : List Func) (func : Func) → (clock ≡ 0 → ⊥) → slice_get fs f ≡ Some func → (clock - 1) * level fs + (8 * body_depth func.body + 15) < clock * level fs
+called_lower clock f fs func ne h = let e : clock ≡ clock - 1 + 1 = omega arith in lower clock (clock - 1) (body_depth func.body) fs e (deep fs f func h)

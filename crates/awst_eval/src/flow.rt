@@ -4,7 +4,7 @@ ghost use Rattle.std.specs.Prelude.{◌≡◌, List, ℕ};
 ghost use Rattle.awst.specs.Values.{Val};
 ghost use Rattle.awst.specs.Meaning.{returned as returned_there};
 ghost use Rattle.awst_eval.specs.Shown.{meant};
-ghost use Rattle.awst_eval.specs.Flows.{flow_of};
+ghost use Rattle.awst_eval.specs.Flows.{flow_of, ended_by as ended_there};
 
 use crate::datum::Datum;
 
@@ -28,5 +28,17 @@ pub(crate) fn returned(flow: Flow) -> Datum
     match flow {
         Flow::Back(value) => value,
         _ => Datum::Nothing,
+    }
+}
+
+/// How a loop ends by how a turn of it left off; none where its next turn follows.
+pub(crate) fn ended_by(flow: Flow) -> Option<Flow>
+    ensures { result ≡ ended_there flow }
+{
+    match flow {
+        Flow::On => None,
+        Flow::Continued => None,
+        Flow::Back(value) => Some(Flow::Back(value)),
+        Flow::Broke => Some(Flow::On),
     }
 }

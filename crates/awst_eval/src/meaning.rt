@@ -18,7 +18,7 @@ ghost use Rattle.awst_eval.specs.Frames.{program_at, setting_of, variables_of};
 use crate::assigned::{arms_assign, assigned_in};
 use crate::computing::{computed, logged};
 use crate::datum::{Data, Datum, equals, is_true, number_of, parts};
-use crate::flow::{Flow, returned};
+use crate::flow::{Flow, ended_by, returned};
 use crate::form::{Action, action_of};
 use crate::frame::Frame;
 use crate::needs::open;
@@ -498,7 +498,7 @@ fn turn(
 }
 
 #[cycle(run)]
-#[tactic(auto, using(crate::proofs::Stopping::stops, crate::proofs::Stopping::behind, crate::proofs::Turning::turns_on, crate::proofs::Turning::turns_stop), unfolding(crate::specs::Ended::Ends))]
+#[tactic(auto, using(crate::proofs::Turning::while_over, crate::proofs::Turning::while_on, crate::proofs::Turning::while_stops, crate::proofs::Turning::while_turn_stops, crate::proofs::Flowing::turned_again, crate::proofs::Flowing::turned_end), unfolding(crate::specs::Ended::Ends))]
 fn while_turns(
     frame: &Frame<'_>,
     world: &mut World,
@@ -517,10 +517,9 @@ fn while_turns(
         if !is_true(&condition) {
             return Ok(Flow::On);
         }
-        match turn(frame, world, env, inner, price, body)? {
-            Flow::Back(v) => return Ok(Flow::Back(v)),
-            Flow::Broke => return Ok(Flow::On),
-            Flow::On | Flow::Continued => {}
+        let flow = turn(frame, world, env, inner, price, body)?;
+        if let Some(end) = ended_by(flow) {
+            return Ok(end);
         }
         if left == 0 {
             return Err(Stop::Going);
@@ -558,7 +557,7 @@ struct Items {
 }
 
 #[cycle(run)]
-#[tactic(auto, using(crate::proofs::Turning::turns_on, crate::proofs::Turning::turns_stop, crate::proofs::Turning::range_capped), unfolding(crate::specs::Ended::Ends))]
+#[tactic(auto, using(crate::proofs::Turning::range_over, crate::proofs::Turning::range_on, crate::proofs::Turning::range_stops, crate::proofs::Turning::range_capped, crate::proofs::Flowing::turned_again, crate::proofs::Flowing::turned_end), unfolding(crate::specs::Ended::Ends))]
 fn range_turns(
     frame: &Frame<'_>,
     world: &mut World,
@@ -574,10 +573,9 @@ fn range_turns(
     let mut item = items.from;
     while item < items.stop {
         put(env, items.x, Datum::Number(item));
-        match turn(frame, world, env, inner, price, body)? {
-            Flow::Back(v) => return Ok(Flow::Back(v)),
-            Flow::Broke => return Ok(Flow::On),
-            Flow::On | Flow::Continued => {}
+        let flow = turn(frame, world, env, inner, price, body)?;
+        if let Some(end) = ended_by(flow) {
+            return Ok(end);
         }
         if left == 0 {
             return Err(Stop::Going);
@@ -618,7 +616,7 @@ fn range_done(
 }
 
 #[cycle(run)]
-#[tactic(auto, using(crate::proofs::Stopping::ran_out, crate::proofs::Turning::turns_on, crate::proofs::Turning::turns_stop), unfolding(crate::specs::Ended::Ends))]
+#[tactic(auto, using(crate::proofs::Stopping::ran_out, crate::proofs::Turning::bytes_on, crate::proofs::Turning::bytes_stop, crate::proofs::Flowing::turned_again, crate::proofs::Flowing::turned_end), unfolding(crate::specs::Ended::Ends))]
 fn byte_turns(
     frame: &Frame<'_>,
     world: &mut World,
@@ -634,10 +632,9 @@ fn byte_turns(
     let mut left = frame.clock;
     for byte in bytes {
         put(env, x, Datum::Text(Blob::from_slice(frame.alloc, &[*byte])?));
-        match turn(frame, world, env, inner, price, body)? {
-            Flow::Back(v) => return Ok(Flow::Back(v)),
-            Flow::Broke => return Ok(Flow::On),
-            Flow::On | Flow::Continued => {}
+        let flow = turn(frame, world, env, inner, price, body)?;
+        if let Some(end) = ended_by(flow) {
+            return Ok(end);
         }
         if left == 0 {
             return Err(Stop::Going);
@@ -817,7 +814,7 @@ fn open_function(frame: &Frame<'_>, world: &mut World, f: u32, args: Data) -> Re
 
 /// A call of a function, which uses one of the bound; `clock` bounds how deep calls and turns go.
 #[cycle(run)]
-#[tactic(auto, using(crate::proofs::Ticking::ticks_on, crate::proofs::Ticking::ticks_out, crate::proofs::Functions::found, crate::proofs::Functions::missing), unfolding(crate::specs::Ended::Ends, crate::specs::Frames::program_at))]
+#[tactic(auto, using(crate::proofs::Ticking::ticks_on, crate::proofs::Ticking::ticks_out, crate::proofs::Functions::found, crate::proofs::Functions::missing, crate::proofs::Depths::called_lower), unfolding(crate::specs::Ended::Ends, crate::specs::Frames::program_at))]
 pub(crate) fn called(
     alloc: Global,
     contract: &Contract,

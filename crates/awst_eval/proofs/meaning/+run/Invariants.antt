@@ -1,8 +1,9 @@
-use Rattle.std.proofs.Common.{◌≡◌, ◌+◌, ◌*◌, ◌≤◌, max, map, drop, length}
+use Rattle.std.proofs.Common.{◌≡◌, ◌+◌, ◌*◌, ◌≤◌, max, map, drop, length, suc}
 use Rattle.runs.specs.Steps.{after}
 use Rattle.awst.specs.declared.expression.Expr.{size-Expr}
-use Rattle.awst.specs.Meaning.{values_of, all_do, picked}
-use Rattle.awst.specs.Plain.{trees_of, otherwise, all_plain, picks_plain, statement_of, arm_of, pick_of}
+use Rattle.awst.specs.Values.{string}
+use Rattle.awst.specs.Meaning.{value_of, values_of, all_do, picked, turns, turn_while, turn_of_range, turn_of_items, items_of}
+use Rattle.awst.specs.Plain.{tree_of, trees_of, otherwise, all_plain, picks_plain, statement_of, arm_of, pick_of}
 use Rattle.awst_eval.specs.Shown.{meant, all_meant}
 use Rattle.awst_eval.specs.Worlds.{world_of}
 use Rattle.awst_eval.specs.Frames.{setting_of, variables_of}
@@ -141,3 +142,24 @@ invariant-picked-loop-pick l =
     (picked (setting_of l.frame) l.frame.clock (meant l.v) (picks_plain (variables_of l.frame) l.a (map pick_of l.picks)) (all_do (setting_of l.frame) l.frame.clock (all_plain (variables_of l.frame) l.a (map statement_of l.rest)) (all_meant l.env)) (all_meant l.env) (world_of l.world)
     ≡ picked (setting_of l.frame) l.frame.clock (meant l.v) (picks_plain (variables_of l.frame) l.a (map pick_of (drop l.pick-index l.picks))) (all_do (setting_of l.frame) l.frame.clock (all_plain (variables_of l.frame) l.a (map statement_of l.rest)) (all_meant l.env)) (all_meant l.env) (world_of l.world))
     × (picks_depth (drop l.pick-index l.picks) ≤ picks_depth l.picks)
+
+abbrev pub invariant-while_turns-loop-condition : goal.invariant-while_turns-loop-condition
+invariant-while_turns-loop-condition l =
+    turns (suc l.frame.clock) l.price (turn_while (λ variables. value_of (setting_of l.frame) l.line variables (tree_of l.c))) (all_do (setting_of l.frame) l.frame.clock (all_plain (variables_of l.frame) l.inner (map statement_of l.body))) tt (all_meant l.initial.env) (world_of l.initial.world)
+    ≡ turns (suc l.left) l.price (turn_while (λ variables. value_of (setting_of l.frame) l.line variables (tree_of l.c))) (all_do (setting_of l.frame) l.frame.clock (all_plain (variables_of l.frame) l.inner (map statement_of l.body))) tt (all_meant l.env) (world_of l.world)
+
+abbrev pub decreases-while_turns-loop-condition : goal.decreases-while_turns-loop-condition
+decreases-while_turns-loop-condition l = l.left
+
+abbrev pub invariant-range_turns-loop-item : goal.invariant-range_turns-loop-item
+invariant-range_turns-loop-item l =
+    turns (suc l.frame.clock) l.price (turn_of_range l.items.x l.items.step l.items.stop) (all_do (setting_of l.frame) l.frame.clock (all_plain (variables_of l.frame) l.inner (map statement_of l.body))) l.items.from (all_meant l.initial.env) (world_of l.initial.world)
+    ≡ turns (suc l.left) l.price (turn_of_range l.items.x l.items.step l.items.stop) (all_do (setting_of l.frame) l.frame.clock (all_plain (variables_of l.frame) l.inner (map statement_of l.body))) l.item (all_meant l.env) (world_of l.world)
+
+abbrev pub decreases-range_turns-loop-item : goal.decreases-range_turns-loop-item
+decreases-range_turns-loop-item l = l.left
+
+abbrev pub invariant-byte_turns-loop-byte : goal.invariant-byte_turns-loop-byte
+invariant-byte_turns-loop-byte l =
+    turns (suc l.frame.clock) l.price (turn_of_items l.x) (all_do (setting_of l.frame) l.frame.clock (all_plain (variables_of l.frame) l.inner (map statement_of l.body))) (items_of (string l.bytes)) (all_meant l.initial.env) (world_of l.initial.world)
+    ≡ turns (suc l.left) l.price (turn_of_items l.x) (all_do (setting_of l.frame) l.frame.clock (all_plain (variables_of l.frame) l.inner (map statement_of l.body))) (items_of (string (drop l.byte-index l.bytes))) (all_meant l.env) (world_of l.world)
