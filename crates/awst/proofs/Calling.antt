@@ -1,5 +1,11 @@
 -- A node calls the functions of its list of calls.
-use Rattle.std.proofs.Common.{◌≡◌, ℕ, ◌∙◌, Bool, true, false, ◌||◌, eqb, List, [], ◌∷◌, ◌++◌, Option, Some, None, refl, ap}
+use Rattle.std.proofs.Common.{◌≡◌, ℕ, ◌∙◌, Bool, true, false, ◌||◌, eqb, List, [], ◌∷◌, ◌++◌, Option, Some, None, refl, sym, ap, append_assoc}
+use Rattle.std.proofs.lemmas.List.{append-nil}
+use Rattle.std.specs.Prelude.{Result, Ok, Err, OnOk}
+use Rattle.puya_base.specs.declared.source.Place.{Place}
+use Rattle.puya_base.specs.declared.memory.Memory.{Memory}
+use Rattle.awst.specs.Plain.{Scope, Statement, PlainArm, all_plain, if_plain, otherwise}
+use Rattle.awst.specs.Arms.{arms_called}
 use Rattle.awst.specs.Tree.{Ex, ex, Form, constant, variable, strict, both, one_of, choose, call, Exs, no_exprs, an_expr, St, st, Deed, assign, effect, assert, branch, loop, count, each, break, continue, give_back, reject, pick, Picks, no_picks, a_pick, Sts, no_stmts, a_stmt}
 use Rattle.awst.specs.Calls.{ex_called, form_called, exs_called, optional_called, st_called, deed_called, picks_called, sts_called, is_in}
 use Rattle.awst.specs.Weight.{ex_calls, form_calls, exs_calls, optional_calls, st_calls, deed_calls, picks_calls, sts_calls}
@@ -63,3 +69,30 @@ mutual
   pub sts_same : (ss : Sts) (g : ℕ) → is_in (sts_called ss) g ≡ sts_calls ss g
   sts_same no_stmts g = refl
   sts_same (a_stmt s ss) g = joined (st_called s) (sts_called ss) g _ _ (st_same s g) (sts_same ss g)
+
+-- ---- calls that are added to a list
+
+-- those of one part after those of others; the last part's may be said otherwise
+pub calls_then : (r : Result (Unit {0}) Memory) (old mid new a b b' whole : List ℕ) → mid ≡ old ++ a → b' ≡ b → whole ≡ a ++ b → OnOk r (new ≡ mid ++ b') → OnOk r (new ≡ old ++ whole)
+calls_then (Ok d) old mid new a b b' whole m e w h = h ∙ ap (λ l. l ++ b') m ∙ ap (λ l. (old ++ a) ++ l) e ∙ append_assoc old a b ∙ ap (λ l. old ++ l) (sym w)
+calls_then (Err x) old mid new a b b' whole m e w h = tt
+
+pub calls_alone : (r : Result (Unit {0}) Memory) (old new b' whole : List ℕ) → whole ≡ b' → OnOk r (new ≡ old ++ b') → OnOk r (new ≡ old ++ whole)
+calls_alone (Ok d) old new b' whole w h = h ∙ ap (λ l. old ++ l) (sym w)
+calls_alone (Err x) old new b' whole w h = tt
+
+pub two_calls : (old mid new a b : List ℕ) → mid ≡ old ++ a → new ≡ mid ++ b → new ≡ old ++ (a ++ b)
+two_calls old mid new a b m e = e ∙ ap (λ l. l ++ b) m ∙ append_assoc old a b
+
+otherwise_called : (p : Place) (scope : Scope) (a : ℕ) (arms : List PlainArm) (rest : List Statement) → sts_called (otherwise p scope a arms rest) ≡ arms_called scope a arms ++ sts_called (all_plain scope a rest)
+otherwise_called p scope a [] rest = refl
+otherwise_called p scope a (arm ∷ arms) rest =
+    let here = ex_called arm.condition ++ sts_called (all_plain scope a arm.body) in
+    append-nil (here ++ sts_called (otherwise p scope a arms rest)) ∙ ap (λ l. here ++ l) (otherwise_called p scope a arms rest) ∙ sym (append_assoc here (arms_called scope a arms) (sts_called (all_plain scope a rest)))
+
+-- an `if` calls what its arms and the rest call
+pub if_called : (p : Place) (scope : Scope) (a : ℕ) (arms : List PlainArm) (rest : List Statement) → st_called (if_plain p scope a arms rest) ≡ arms_called scope a arms ++ sts_called (all_plain scope a rest)
+if_called p scope a [] rest = append-nil (sts_called (all_plain scope a rest))
+if_called p scope a (arm ∷ arms) rest =
+    let here = ex_called arm.condition ++ sts_called (all_plain scope a arm.body) in
+    ap (λ l. here ++ l) (otherwise_called p scope a arms rest) ∙ sym (append_assoc here (arms_called scope a arms) (sts_called (all_plain scope a rest)))

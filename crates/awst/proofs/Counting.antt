@@ -1,5 +1,6 @@
 -- Counts of places, with counts that stand still.
 use Rattle.std.proofs.Common.{◌≡◌, ℕ, ◌+◌, ◌*◌, ◌∙◌, max, List, [], ◌∷◌, ◌++◌, map, length, Some, refl, ap, arith}
+use Rattle.puya_base.specs.declared.source.Place.{Place}
 use Rattle.awst.specs.declared.ty.Ty.{Ty}
 use Rattle.awst.specs.declared.primitive.Primitive.{Primitive}
 use Rattle.awst.specs.declared.statement.Target.{Target}
@@ -8,7 +9,6 @@ use Rattle.awst.specs.Types.{type_of, types_of, scalar_total}
 use Rattle.awst.specs.Capped.{capped}
 use Rattle.awst.specs.Tree.{Ex, to_variable}
 use Rattle.awst.specs.Plain.{updated, assigned_value, destination}
-use Rattle.awst.specs.Functions.{no_place}
 
 pub scalars_append : (ps ls : List Ty) → scalar_total (types_of (map type_of (ps ++ ls))) ≡ scalar_total (types_of (map type_of ps)) + scalar_total (types_of (map type_of ls))
 scalars_append [] ls = omega arith
@@ -34,7 +34,7 @@ pub need_result : (p l cp tw a cl res : ℕ) → cp ≡ capped p → tw ≡ capp
 need_result p l cp tw a cl res ecp etw ea ecl eres =
     eres ∙ ap (λ x. capped (x + cl)) (ea ∙ ap (λ x. capped (x + 16)) (etw ∙ ap (λ x. capped (x * 2)) ecp)) ∙ ap (λ x. capped (capped (capped (capped p * 2) + 16) + x)) ecl ∙ need_count p l
 
-pub assigned_one : (prim : Primitive) (ts : List Target) (e : Ex) → length ts ≡ 1 → (x : ℕ) × (assigned_value no_place (Some prim) (map destination ts) e ≡ updated no_place prim (to_variable x) e)
-assigned_one prim [] e h = absurd (omega (arith, h))
-assigned_one prim (target.Local x ∷ []) e h = (x, refl)
-assigned_one prim (t ∷ u ∷ ts) e h = absurd (omega (arith, h))
+pub assigned_one : (place : Place) (prim : Primitive) (ts : List Target) (e : Ex) → length ts ≡ 1 → (x : ℕ) × (assigned_value place (Some prim) (map destination ts) e ≡ updated place prim (to_variable x) e)
+assigned_one place prim [] e h = absurd (omega (arith, h))
+assigned_one place prim (target.Local x ∷ []) e h = (x, refl)
+assigned_one place prim (t ∷ u ∷ ts) e h = absurd (omega (arith, h))

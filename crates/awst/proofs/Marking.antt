@@ -1,7 +1,9 @@
 -- Rows of marks: marks for nothing, one after another, and of one number.
-use Rattle.std.proofs.Common.{◌≡◌, ℕ, zero, suc, ◌+◌, ◌<◌, ◌≤◌, ◌∙◌, Bool, true, false, ◌||◌, List, [], ◌∷◌, length, set, eqb, refl, sym, ap, arith}
+use Rattle.std.proofs.Common.{◌≡◌, ℕ, zero, suc, ◌+◌, ◌<◌, ◌≤◌, ◌∙◌, Bool, true, false, ◌||◌, List, [], ◌∷◌, length, set, get_or, drop, eqb, refl, sym, ap, add-one, drop-cons, arith}
 use Rattle.std.proofs.lemmas.Bool.{eq-eqb, ne_eqb}
-use Rattle.awst.specs.Marks.{marked_from, marked}
+use Rattle.std.proofs.lemmas.List.{drop_all, get_or_default}
+use Rattle.awst.specs.Marks.{marked_from, marked, marked_sum}
+use Rattle.awst.specs.Plain.{Statement, PlainArm, PlainPick, assigned_in, assigned_in_arms, assigned_in_picks}
 
 -- marks for nothing
 pub marked_none_from : (x : ℕ) (marks : List Bool) → marked_from x (λ y. false) marks ≡ marks
@@ -71,3 +73,68 @@ or_comm false false = refl
 -- the later marks said first
 pub marked_before : (f g : ℕ → Bool) (marks : List Bool) → marked f (marked g marks) ≡ marked (λ y. f y || g y) marks
 marked_before f g marks = marked_both g f marks ∙ marked_same (λ y. g y || f y) (λ y. f y || g y) marks (λ y. or_comm (g y) (f y))
+
+or_assoc : (a b c : Bool) → ((a || b) || c) ≡ (a || (b || c))
+or_assoc true b c = refl
+or_assoc false b c = refl
+
+-- one more of a list
+pub next_item : {X : Type 0} (xs : List X) (i : ℕ) (x : X) → i < length xs → x ≡ get_or xs i x → drop i xs ≡ x ∷ drop (i + 1) xs
+next_item xs i x h e = drop-cons xs i x h ∙ ap (λ y. y ∷ drop (suc i) xs) (sym e) ∙ ap (λ n. x ∷ drop n xs) (sym (add-one i))
+
+-- marks for a list of things, one thing after the other
+pub marked_next : {X : Type 0} (f : List X → ℕ → Bool) (one : X → ℕ → Bool) (xs : List X) (i : ℕ) (x : X) (marks more whole : List Bool) →
+    ((ys : List X) → f (x ∷ ys) ≡ λ y. one x y || f ys y) → i < length xs → x ≡ get_or xs i x → more ≡ marked (one x) marks →
+    marked (f (drop i xs)) marks ≡ whole → marked (f (drop (i + 1) xs)) more ≡ whole
+marked_next f one xs i x marks more whole by_step h e m w =
+    ap (marked (f (drop (i + 1) xs))) m
+    ∙ marked_both (one x) (f (drop (i + 1) xs)) marks
+    ∙ ap (λ g. marked g marks) (sym (by_step (drop (i + 1) xs)))
+    ∙ ap (λ l. marked (f l) marks) (sym (next_item xs i x h e))
+    ∙ w
+
+-- nothing is left
+pub marked_end : {X : Type 0} (f : List X → ℕ → Bool) (xs : List X) (i : ℕ) (marks whole : List Bool) →
+    (f [] ≡ λ y. false) → length xs ≤ i → marked (f (drop i xs)) marks ≡ whole → marks ≡ whole
+marked_end f xs i marks whole none h w = marked_none marks ∙ ap (λ g. marked g marks) (sym none) ∙ ap (λ l. marked (f l) marks) (sym (drop_all i xs h)) ∙ w
+
+pub arms_then : (arms : List PlainArm) (rest : List Statement) (x : ℕ) → (assigned_in_arms arms [] x || assigned_in rest x) ≡ assigned_in_arms arms rest x
+arms_then [] rest x = refl
+arms_then (arm ∷ arms) rest x = or_assoc (assigned_in arm.body x) (assigned_in_arms arms [] x) (assigned_in rest x) ∙ ap (λ b. assigned_in arm.body x || b) (arms_then arms rest x)
+
+pub picks_then : (picks : List PlainPick) (rest : List Statement) (x : ℕ) → (assigned_in_picks picks [] x || assigned_in rest x) ≡ assigned_in_picks picks rest x
+picks_then [] rest x = refl
+picks_then (p ∷ ps) rest x = or_assoc (assigned_in p.body x) (assigned_in_picks ps [] x) (assigned_in rest x) ∙ ap (λ b. assigned_in p.body x || b) (picks_then ps rest x)
+
+-- marks for arms and then for the rest
+pub marked_arms : (arms : List PlainArm) (rest : List Statement) (marks mid more : List Bool) → mid ≡ marked (assigned_in_arms arms []) marks → more ≡ marked (assigned_in rest) mid → more ≡ marked (assigned_in_arms arms rest) marks
+marked_arms arms rest marks mid more e m =
+    m ∙ ap (marked (assigned_in rest)) e ∙ marked_both (assigned_in_arms arms []) (assigned_in rest) marks
+    ∙ marked_same (λ y. assigned_in_arms arms [] y || assigned_in rest y) (assigned_in_arms arms rest) marks (arms_then arms rest)
+
+pub marked_picks : (picks : List PlainPick) (rest : List Statement) (marks mid more : List Bool) → mid ≡ marked (assigned_in_picks picks []) marks → more ≡ marked (assigned_in rest) mid → more ≡ marked (assigned_in_picks picks rest) marks
+marked_picks picks rest marks mid more e m =
+    m ∙ ap (marked (assigned_in rest)) e ∙ marked_both (assigned_in_picks picks []) (assigned_in rest) marks
+    ∙ marked_same (λ y. assigned_in_picks picks [] y || assigned_in rest y) (assigned_in_picks picks rest) marks (picks_then picks rest)
+
+no_sizes : (marks : List Bool) → marked_sum marks [] ≡ 0
+no_sizes [] = refl
+no_sizes (mark ∷ marks) = refl
+
+pub marked_sum_end : (marks : List Bool) (sizes : List ℕ) (i : ℕ) → length sizes ≤ i → marked_sum (drop i marks) (drop i sizes) ≡ 0
+marked_sum_end marks sizes i h = ap (marked_sum (drop i marks)) (drop_all i sizes h) ∙ no_sizes (drop i marks)
+
+-- an element read at another default
+pub read_again : {X : Type 0} (xs : List X) (i : ℕ) (d : X) → i < length xs → get_or xs i d ≡ get_or xs i (get_or xs i d)
+read_again xs i d h = get_or_default xs i d (get_or xs i d) h
+
+-- the same where the step holds number by number
+pub marked_next_at : {X : Type 0} (f : List X → ℕ → Bool) (one : X → ℕ → Bool) (xs : List X) (i : ℕ) (x : X) (marks more whole : List Bool) →
+    ((ys : List X) (y : ℕ) → f (x ∷ ys) y ≡ (one x y || f ys y)) → i < length xs → x ≡ get_or xs i x → more ≡ marked (one x) marks →
+    marked (f (drop i xs)) marks ≡ whole → marked (f (drop (i + 1) xs)) more ≡ whole
+marked_next_at f one xs i x marks more whole by_step h e m w =
+    ap (marked (f (drop (i + 1) xs))) m
+    ∙ marked_both (one x) (f (drop (i + 1) xs)) marks
+    ∙ sym (marked_same (f (x ∷ drop (i + 1) xs)) (λ y. one x y || f (drop (i + 1) xs) y) marks (by_step (drop (i + 1) xs)))
+    ∙ ap (λ l. marked (f l) marks) (sym (next_item xs i x h e))
+    ∙ w

@@ -2,13 +2,17 @@
 use Rattle.std.proofs.Common.{◌≡◌, ℕ, zero, suc, ◌+◌, ◌<◌, ◌≤◌, ◌⊎◌, inl, inr, ◌∙◌, Bool, true, false, ◌||◌, eqb, List, [], ◌∷◌, ◌++◌, length, get_or, set, map, replicate, Option, Some, None, refl, sym, ap, subst, arith, length-append}
 use Rattle.std.proofs.lemmas.List.{get_or-set_other, get_or-set_same}
 use Rattle.std.proofs.lemmas.Bool.{or_cases, or_left, or_right, eq-eqb, eqb-true, cases_eq, false≢true}
+use Rattle.std.specs.Prelude.{Result, Ok, Err, OnOk}
+use Rattle.puya_base.specs.declared.memory.Memory.{Memory}
+use Rattle.awst.specs.declared.contract.Func.{Func}
+use Rattle.awst.specs.Functions.{function_of}
 use Rattle.awst.specs.Meaning.{Function}
-use Rattle.awst.specs.Weight.{is_root, roots_from, spread, sts_calls}
+use Rattle.awst.specs.Weight.{is_root, reached, roots_from, spread, sts_calls}
 use Rattle.awst.specs.Calls.{is_in, sts_called}
 use Rattle.awst.specs.Marks.{marked, marked_from}
 use Rattle.awst.specs.Reach.{mark_at, calls_at, unmarked, Waits, AllWait}
 use Rattle.awst.proofs.Calling.{is_in_append, sts_same}
-use Rattle.awst.proofs.Marking.{marked_none, marked_one, marked_same}
+use Rattle.awst.proofs.Marking.{marked_none, marked_one, marked_outside, marked_same}
 use Rattle.awst.proofs.Reaching.{Below, Closed, mark_inside, mark_of_marked, length-marked, reached_is, reached_closed, reached_keeps}
 
 or_false : (b : Bool) → (b || false) ≡ b
@@ -86,7 +90,7 @@ waits_both a b c u v w p q below = record {
 pub root_alone : (f : ℕ) (marks : List Bool) → marked (λ g. eqb f g) marks ≡ marked (is_root (Some f ∷ [])) marks
 root_alone f marks = marked_same (λ g. eqb f g) (is_root (Some f ∷ [])) marks (λ g. sym (or_false (eqb f g)))
 
-root_first : (root : Option ℕ) (roots : List (Option ℕ)) (g : ℕ) → (is_root (root ∷ []) g || is_root roots g) ≡ is_root (root ∷ roots) g
+pub root_first : (root : Option ℕ) (roots : List (Option ℕ)) (g : ℕ) → (is_root (root ∷ []) g || is_root roots g) ≡ is_root (root ∷ roots) g
 root_first None roots g = refl
 root_first (Some f) roots g = ap (λ b. b || is_root roots g) (or_false (eqb f g))
 
@@ -192,3 +196,52 @@ visiting_goes_on functions first marks more left waiting f v e w =
             | inr m ↦ m
           ];
     }
+
+-- ---- what the functions in src/reach.rt need
+
+pub marked_stays : (f : ℕ) (marks : List Bool) → (length marks ≤ f) ⊎ (mark_at marks f ≡ true) → marks ≡ marked (λ g. eqb f g) marks
+marked_stays f marks (inl outside_row) = marked_outside f marks outside_row
+marked_stays f marks (inr m) = marked_again f marks m
+
+-- a function is noted after others
+pub waits_next : (f : ℕ → Bool) (a b c : List Bool) (u v w : List ℕ) → Waits a b u v → c ≡ marked f b → Waits b c v w → Waits a c u w
+waits_next f a b c u v w p e q = waits_both a b c u v w p q (below_marked f b c e)
+
+calls_of_visited : (funcs : List Func) (f : ℕ) (func : Func) → f < length funcs → func ≡ get_or funcs f func → (g : ℕ) → sts_calls (function_of func).body g ≡ calls_at (map function_of funcs) f g
+calls_of_visited [] f func h e g = absurd (omega arith)
+calls_of_visited (first ∷ funcs) zero func h e g = ap (λ x. sts_calls (function_of x).body g) e
+calls_of_visited (first ∷ funcs) (suc f) func h e g = calls_of_visited funcs f func (omega arith) e g
+
+length-functions : (funcs : List Func) → length (map function_of funcs) ≡ length funcs
+length-functions [] = refl
+length-functions (f ∷ funcs) = ap suc (length-functions funcs)
+
+-- the calls of a function are noted
+pub visited : (funcs : List Func) (f : ℕ) (func : Func) (calls : List ℕ) (marks : List Bool) → f < length funcs → func ≡ get_or funcs f func → calls ≡ sts_called (function_of func).body →
+    marked (is_in calls) marks ≡ marked (calls_at (map function_of funcs) f) marks
+visited funcs f func calls marks h at_f e =
+    ap (λ l. marked (is_in l) marks) e
+    ∙ marked_same (is_in (sts_called (function_of func).body)) (calls_at (map function_of funcs) f) marks (λ g. sts_same (function_of func).body g ∙ calls_of_visited funcs f func h at_f g)
+
+pub on_ok_same : (r : Result (Unit {0}) Memory) (new x y : List Bool) → x ≡ y → OnOk r (new ≡ x) → OnOk r (new ≡ y)
+on_ok_same (Ok d) new x y e h = h ∙ e
+on_ok_same (Err m) new x y e h = tt
+
+pub not_visited : (funcs : List Func) (f : ℕ) (marks : List Bool) → length funcs ≤ f → marks ≡ marked (calls_at (map function_of funcs) f) marks
+not_visited funcs f marks h = nothing_called (map function_of funcs) f marks (omega (arith, h, length-functions funcs))
+
+pub waits_noted : (f : ℕ) (marks more : List Bool) (waiting longer : List ℕ) → f < length marks → mark_at marks f ≡ false → more ≡ set marks f true → longer ≡ waiting ++ f ∷ [] → Waits marks more waiting longer
+waits_noted f marks more waiting longer h m e d = subst (λ l. Waits marks more waiting l) (sym d) (subst (λ l. Waits marks l waiting (waiting ++ f ∷ [])) (sym e) (waits_one f marks waiting h m))
+
+-- the roots that are marked
+pub first_marks : (roots : List (Option ℕ)) (funcs : List Func) (none marks : List Bool) → none ≡ replicate (length funcs) false → marks ≡ marked (is_root roots) none → marks ≡ roots_from 0 roots (map function_of funcs)
+first_marks roots funcs none marks e m =
+    m ∙ ap (marked (is_root roots)) (e ∙ ap (λ n. replicate n false) (sym (length-functions funcs))) ∙ roots_are roots (map function_of funcs)
+
+length-roots : (x : ℕ) (roots : List (Option ℕ)) (functions : List Function) → length (roots_from x roots functions) ≡ length functions
+length-roots x roots [] = refl
+length-roots x roots (f ∷ functions) = ap suc (length-roots (x + 1) roots functions)
+
+pub reached_result : (roots : List (Option ℕ)) (funcs : List Func) (first marks : List Bool) → first ≡ roots_from 0 roots (map function_of funcs) → marks ≡ spread (length first) (map function_of funcs) first → marks ≡ reached roots (map function_of funcs)
+reached_result roots funcs first marks e m =
+    m ∙ ap (λ l. spread (length l) (map function_of funcs) l) e ∙ ap (λ n. spread n (map function_of funcs) (roots_from 0 roots (map function_of funcs))) (length-roots 0 roots (map function_of funcs))

@@ -1,5 +1,6 @@
 use crate::{
-    Expr, ExprKind, Exprs, Func, Primitive, Stmt, StmtKind, Stmts, Ty, Tys, places, stack_need,
+    Contract, Expr, ExprKind, Exprs, Func, Funcs, Primitive, Stmt, StmtKind, Stmts, Ty, Tys,
+    places, stack_need, weight,
 };
 use puya_base::{List, Memory, Name, Place};
 use std::alloc::Global;
@@ -56,5 +57,43 @@ fn two_numbers_wait_for_their_product(rt: HostRuntime) -> Result<(), Fail> {
     let f = returning(rt.alloc(), 0, product(rt.alloc())?)?;
     assert_eq!(rt; places(&f), 4);
     assert_eq!(rt; stack_need(&f), 24);
+    Ok(())
+}
+
+/// A contract of some functions, whose first is its approval program.
+fn contract_of(alloc: Global, funcs: Funcs, clear: Option<u32>) -> Result<Contract, Memory> {
+    Ok(Contract {
+        name: Name::new(alloc, "C")?,
+        arc4: false,
+        funcs,
+        approval: Some(0),
+        clear,
+        init: None,
+    })
+}
+
+/// A call of a function without parameters.
+fn call_of(alloc: Global, f: u32) -> Expr {
+    number(ExprKind::Call(f, List::new(alloc), List::new(alloc)))
+}
+
+#[test]
+fn a_product_weighs_232_bytes_and_64(rt: HostRuntime) -> Result<(), Fail> {
+    let mut funcs: Funcs = List::new(rt.alloc());
+    funcs.push(returning(rt.alloc(), 0, product(rt.alloc())?)?)?;
+    let contract = contract_of(rt.alloc(), funcs, None)?;
+    assert_eq!(rt; weight(rt.alloc(), &contract)?, 296);
+    Ok(())
+}
+
+/// The first calls the second, which calls itself; the third is not reached.
+#[test]
+fn a_function_weighs_where_it_is_reached(rt: HostRuntime) -> Result<(), Fail> {
+    let mut funcs: Funcs = List::new(rt.alloc());
+    funcs.push(returning(rt.alloc(), 0, call_of(rt.alloc(), 1))?)?;
+    funcs.push(returning(rt.alloc(), 0, call_of(rt.alloc(), 1))?)?;
+    funcs.push(returning(rt.alloc(), 0, product(rt.alloc())?)?)?;
+    let contract = contract_of(rt.alloc(), funcs, Some(1))?;
+    assert_eq!(rt; weight(rt.alloc(), &contract)?, 496);
     Ok(())
 }
