@@ -25,7 +25,7 @@ found contract call n f args old new w x func ne t h g =
     let e : n ≡ suc (n - 1) = omega arith in
     let there = slice_get-map function_of contract.funcs f ∙ ap (λ o. option_map function_of o) h in
     let whole = ap (λ k. called (program_at contract call) k f args old) e ∙ used (runs_function (program_at contract call) (called (program_at contract call) (n - 1)) (n - 1) f (slice_get (map function_of contract.funcs) f) args) old new t
-        ∙ ap (λ o. runs_function (program_at contract call) (called (program_at contract call) (n - 1)) (n - 1) f o args new) there in
+    ∙ ap (λ o. runs_function (program_at contract call) (called (program_at contract call) (n - 1)) (n - 1) f o args new) there in
     subst (λ (r : runs.Result Val). Ends meant x r w) (sym whole) g
 
 pub missing : (contract : Contract) (call : Call) (n f : ℕ) (args : List Val) (old new : World) → (n ≡ 0 → ⊥) → Ticks true old new → slice_get contract.funcs f ≡ None →

@@ -107,7 +107,15 @@ fn kind_value(
         ExprKind::Item(e, Index::Fixed(i)) => part_value(frame, world, line, env, e.get(), *i),
         ExprKind::Item(e, Index::At(i)) => element_value(frame, world, line, env, e.get(), i.get()),
         ExprKind::Call(f, parts, order) => {
-            call_value(frame, world, line, env, *f, parts.as_slice(), order.as_slice())
+            call_value(
+                frame,
+                world,
+                line,
+                env,
+                *f,
+                parts.as_slice(),
+                order.as_slice(),
+            )
         }
     }
 }
@@ -275,7 +283,15 @@ fn call_value(
 {
     let vs = values(frame, world, line, env, parts)?;
     let args = arguments(frame.alloc, order, vs.as_slice())?;
-    called(frame.alloc, frame.contract, frame.call, frame.clock, world, f, args)
+    called(
+        frame.alloc,
+        frame.contract,
+        frame.call,
+        frame.clock,
+        world,
+        f,
+        args,
+    )
 }
 
 /// The value of an optional part, or what stands for it where it is absent.
@@ -334,7 +350,14 @@ fn updated(
 {
     pay_operation(world, prim, e)?;
     let both = two_values(frame, world, place, env, x, e)?;
-    operate(frame.alloc, frame.call, world, place.line, prim, both.as_slice())
+    operate(
+        frame.alloc,
+        frame.call,
+        world,
+        place.line,
+        prim,
+        both.as_slice(),
+    )
 }
 
 /// What an assignment assigns.
@@ -631,7 +654,11 @@ fn byte_turns(
 {
     let mut left = frame.clock;
     for byte in bytes {
-        put(env, x, Datum::Text(Blob::from_slice(frame.alloc, &[*byte])?));
+        put(
+            env,
+            x,
+            Datum::Text(Blob::from_slice(frame.alloc, &[*byte])?),
+        );
         let flow = turn(frame, world, env, inner, price, body)?;
         if let Some(end) = ended_by(flow) {
             return Ok(end);
@@ -730,7 +757,15 @@ fn statement(
         StmtKind::Drop(e) => effect_done(frame, world, env, place, e),
         StmtKind::Assert(e) => assert_done(frame, world, env, place, e),
         StmtKind::If(arms, rest) => {
-            if_done(frame, world, env, a, place, arms.as_slice(), rest.as_slice())
+            if_done(
+                frame,
+                world,
+                env,
+                a,
+                place,
+                arms.as_slice(),
+                rest.as_slice(),
+            )
         }
         StmtKind::While(c, body) => {
             let inner = assigned_in(frame, s)?;
@@ -738,7 +773,18 @@ fn statement(
         }
         StmtKind::Range(x, start, stop, step, body) => {
             let inner = assigned_in(frame, s)?;
-            range_done(frame, world, env, inner, place, *x, start, stop, *step, body.as_slice())
+            range_done(
+                frame,
+                world,
+                env,
+                inner,
+                place,
+                *x,
+                start,
+                stop,
+                *step,
+                body.as_slice(),
+            )
         }
         StmtKind::Each(x, e, body) => {
             let inner = assigned_in(frame, s)?;
@@ -759,7 +805,17 @@ fn statement(
         }
         StmtKind::Match(e, picks, rest) => {
             let inner = assigned_in(frame, s)?;
-            match_done(frame, world, env, a, inner, place, e, picks.as_slice(), rest.as_slice())
+            match_done(
+                frame,
+                world,
+                env,
+                a,
+                inner,
+                place,
+                e,
+                picks.as_slice(),
+                rest.as_slice(),
+            )
         }
     }
 }
@@ -806,7 +862,13 @@ fn function_value(frame: &Frame<'_>, world: &mut World, args: Data) -> Result<Da
 fn open_function(frame: &Frame<'_>, world: &mut World, f: u32, args: Data) -> Result<Datum, Stop>
     ensures { Ends meant result (runs_function (program_at frame.now.contract.now frame.now.call.now) (called_there (program_at frame.now.contract.now frame.now.call.now) frame.now.clock) frame.now.clock f (Some (function_of frame.now.func.now)) (all_meant args) (world_of world.old)) (world_of world.new) }
 {
-    let before = open(frame.alloc, frame.contract, frame.call, world, u64::from(f) + 1)?;
+    let before = open(
+        frame.alloc,
+        frame.contract,
+        frame.call,
+        world,
+        u64::from(f) + 1,
+    )?;
     let v = function_value(frame, world, args)?;
     world.close(before);
     Ok(v)

@@ -57,7 +57,10 @@ fn set(alloc: Global, x: u32, e: Expr) -> Result<Stmt, Memory> {
 }
 
 fn log(line: u32, parts: Exprs) -> Stmt {
-    at(line, StmtKind::Drop(form(Ty::Nothing, Primitive::Log, parts)))
+    at(
+        line,
+        StmtKind::Drop(form(Ty::Nothing, Primitive::Log, parts)),
+    )
 }
 
 /// A contract of one function, which returns the value behind the statements.
@@ -178,8 +181,14 @@ fn items_never_overflow(rt: HostRuntime) -> Result<(), Fail> {
     let ended = run(alloc, &contract, 3)?;
     assert_eq!(rt; ended.ending, Ending::Approved);
     assert_eq!(rt; ended.seen.ledger.log_count(), 2);
-    assert_eq!(rt; ended.seen.ledger.log(0), (u64::MAX - 5).to_be_bytes().as_slice());
-    assert_eq!(rt; ended.seen.ledger.log(1), (u64::MAX - 2).to_be_bytes().as_slice());
+    assert_eq!(rt;
+        ended.seen.ledger.log(0),
+        (u64::MAX - 5).to_be_bytes().as_slice()
+    );
+    assert_eq!(rt;
+        ended.seen.ledger.log(1),
+        (u64::MAX - 2).to_be_bytes().as_slice()
+    );
     let mark = Mark {
         change: Change::Logs,
         line: 5,
@@ -214,7 +223,10 @@ fn a_swap_takes_both_values(rt: HostRuntime) -> Result<(), Fail> {
     let ended = run(alloc, &contract, 6)?;
     assert_eq!(rt; ended.ending, Ending::Approved);
     assert_eq!(rt; ended.seen.ledger.log_count(), 1);
-    assert_eq!(rt; ended.seen.ledger.log(0), [0, 0, 0, 0, 0, 0, 0, 2, 0, 0, 0, 0, 0, 0, 0, 1].as_slice());
+    assert_eq!(rt;
+        ended.seen.ledger.log(0),
+        [0, 0, 0, 0, 0, 0, 0, 2, 0, 0, 0, 0, 0, 0, 0, 1].as_slice()
+    );
     Ok(())
 }
 

@@ -79,12 +79,7 @@ fn put_each(
 
 /// Puts a value into one target, or the parts of a tuple into several.
 #[tactic(auto, using(crate::proofs::Placing::put_several))]
-fn put_parts(
-    alloc: Global,
-    env: &mut Data,
-    targets: &[Target],
-    value: Datum,
-) -> Result<(), Memory>
+fn put_parts(alloc: Global, env: &mut Data, targets: &[Target], value: Datum) -> Result<(), Memory>
     ensures { OnOk result (all_meant env.new ≡ put_all_there (map destination targets.now) (meant value) (all_meant env.old)) }
 {
     if targets.len() != 1 {
