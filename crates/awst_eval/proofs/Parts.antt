@@ -2,7 +2,7 @@
 use Rattle.std.proofs.Common.{◌≡◌, ℕ, ◌<◌, ◌++◌, List, [], ◌∷◌, map, length, ◌≤◌, get_or, slice_get, Some, None, refl, sym, ap, ◌∙◌, arith}
 use Rattle.std.proofs.lemmas.Option.{slice_get-get_or, slice_get_past}
 use Rattle.puya_base.specs.declared.value.Value.{Value}
-use Rattle.awst.specs.Values.{Val, Vals, tuple, no_vals, a_val, vals_of, listed, scalars, scalars_in, all_scalars, of_scalar, of_each, of_results, parts_of}
+use Rattle.awst.specs.Values.{Val, Vals, number, tuple, no_vals, a_val, vals_of, listed, scalars, scalars_in, all_scalars, of_scalar, of_each, of_results, parts_of}
 use Rattle.awst_eval.specs.declared.datum.Datum.{Datum}
 use Rattle.awst_eval.specs.declared.datum.Datum.TheVariants as datum
 use Rattle.awst_eval.specs.declared.datum.Datum.TheOpen.{Datum-F}
@@ -41,3 +41,6 @@ byte_there b i h = slice_get-get_or b i 0 h
 
 pub byte_past : (b : List ℕ) (i : ℕ) → length b ≤ i → slice_get b i ≡ None
 byte_past b i h = slice_get_past b i h
+
+pub meant-Number : (n : ℕ) → meant (datum.Number n) ≡ number n
+meant-Number n = ap meant (sym (datum.rolls-Number n)) ∙ fold-roll-Datum Val datum_layer (Datum-F.Number n)
