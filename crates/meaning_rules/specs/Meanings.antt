@@ -30,6 +30,8 @@ use Rattle.meaning_rules.specs.declared.meaning.Lit.TheVariants as lit
 use Rattle.meaning_rules.specs.declared.meaning.Range.{Range}
 use Rattle.meaning_rules.specs.declared.meaning.Meaning.{Meaning}
 use Rattle.meaning_rules.specs.declared.meaning.Meaning.TheVariants as meaning
+use Rattle.meaning_rules.specs.declared.operand.Operand.{Operand}
+use Rattle.meaning_rules.specs.declared.operand.Operand.TheVariants.{Value as a_value, Literal as a_literal, Missing as missing}
 
 -- what is said of an expression
 pub record Judged : Type 0 where
@@ -40,12 +42,6 @@ pub record Judged : Type 0 where
 pub record Valued : Type 0 where
   pub notes : List Note
   pub typed : Option Typed
-
--- of an operand: a value, a literal, or nothing that is known
-pub data Operand : Type 0 where
-  a_value : Typed → Operand
-  a_literal : Place → Lit → Operand
-  missing : Operand
 
 pub record Operated : Type 0 where
   pub notes : List Note
@@ -83,6 +79,10 @@ value_breaks r p = record { notes = broken r p ∷ []; typed = None }
 
 abbrev pub a_typed : Typed → Valued
 a_typed t = record { notes = []; typed = Some t }
+
+abbrev pub is_scalar : Option Scalar → Scalar → Bool
+is_scalar None s = false
+is_scalar (Some t) s = same_scalar t s
 
 -- ---- literals
 

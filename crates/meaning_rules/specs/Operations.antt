@@ -33,8 +33,7 @@ use Rattle.source_names.specs.Types.{typed, same_type, scalar_of, tuple_parts, f
 use Rattle.source_names.specs.Literals.{number_of, joined, is_short}
 use Rattle.source_names.specs.Things.{Found, module_name, member_of, behind}
 use Rattle.source_names.specs.Headers.{is_myself}
-use Rattle.source_names.specs.Source.{Between, does, and_then, or_else, is_in, Ex, name, number, text, bytes, flag, paren, tuple, display, index, slice, call, unary, binary, choose, Exs, no_exprs, an_expr, Maybe, absent, present, Args, no_args, an_arg, place_of}
-use Rattle.source_names.specs.Source as source
+use Rattle.source_names.specs.Source.{Between, does, and_then, or_else, is_in}
 use Rattle.meaning_rules.specs.declared.meaning.Hope.{Hope}
 use Rattle.meaning_rules.specs.declared.meaning.Hope.TheVariants as hope
 use Rattle.meaning_rules.specs.declared.meaning.Expect.{Expect}
@@ -50,8 +49,11 @@ use Rattle.meaning_rules.specs.declared.scope.Local.{Local}
 use Rattle.meaning_rules.specs.declared.scope.Method.{Method}
 use Rattle.meaning_rules.specs.declared.scope.Status.{Status}
 use Rattle.meaning_rules.specs.declared.scope.Status.TheVariants as status
-use Rattle.meaning_rules.specs.Meanings.{Judged, Valued, Operand, a_value, a_literal, missing, Operated, broken, broken_all, unknown, breaks, says, after, a_node, node, no_value, value_breaks, a_typed, literal, lit_node, lit_type, operand_of, settled, value, fits_type, required, hoped, context, freely, part_hope, whole_hope, condition}
-use Rattle.meaning_rules.specs.Calls as calls
+use Rattle.meaning_rules.specs.declared.operand.Operand.{Operand}
+use Rattle.meaning_rules.specs.declared.operand.Operand.TheVariants.{Value as a_value, Literal as a_literal, Missing as missing}
+use Rattle.meaning_rules.specs.declared.operand.End.{End}
+use Rattle.meaning_rules.specs.declared.operand.End.TheVariants.{Absent as no_end, Number as an_end, Broken as broken_end}
+use Rattle.meaning_rules.specs.Meanings.{Judged, Valued, Operated, broken, broken_all, unknown, breaks, says, after, a_node, node, no_value, value_breaks, a_typed, literal, lit_node, lit_type, operand_of, settled, value, fits_type, required, hoped, context, freely, part_hope, whole_hope, condition}
 
 -- ---- literals
 
@@ -441,12 +443,6 @@ judge_index p q o j =
     after (b.notes ++ i.notes) (index_when p q b.typed i.operand)
 
 -- ---- slices
-
--- an end of a slice: absent, or a number
-pub data End : Type 0 where
-  no_end : End
-  an_end : Expr → End
-  broken_end : End
 
 pub record Ended : Type 0 where
   pub notes : List Note

@@ -1,0 +1,89 @@
+//! What the rules say of a few expressions.
+
+use crate::applying::applied;
+use crate::arguments::Known;
+use crate::callee::Callee;
+use crate::meaning::{Hope, Lit, Meaning};
+use crate::operand::Operand;
+use crate::operators::{BinaryOperator, between_operands};
+use crate::telling::scalar_node;
+use crate::values::literal;
+use algopy_library::{Operator, Scalar};
+use awst::ExprKind;
+use path_rules::{Note, Notes};
+use puya_base::{Blob, List, Place, Rule};
+use std::test::Fail;
+
+const HERE: Place = Place { line: 1, col: 1 };
+
+const THERE: Place = Place { line: 1, col: 5 };
+
+/// Whether one rule is noted, at that place.
+fn is_told(notes: &Notes, rule: Rule, place: Place) -> bool {
+    match notes.as_slice() {
+        [Note::Broken(refusal)] => refusal.rule == rule && refusal.place == place,
+        _ => false,
+    }
+}
+
+#[test]
+fn literals_have_no_type(rt: HostRuntime) -> Result<(), Fail> {
+    let mut notes = Notes::new(rt.alloc());
+    let typed = literal(&mut notes, &Hope::Free, THERE, Lit::Number(1))?;
+    assert!(rt; typed.is_none());
+    assert!(rt; is_told(&notes, Rule::P14, THERE));
+    Ok(())
+}
+
+#[test]
+fn numbers_are_added_and_texts_are_not_divided(rt: HostRuntime) -> Result<(), Fail> {
+    let mut notes = Notes::new(rt.alloc());
+    let one = Operand::Value(scalar_node(HERE, Scalar::UInt64, ExprKind::Int(1)));
+    let two = Operand::Literal(THERE, Lit::Number(2));
+    let add = BinaryOperator::Does(Operator::Add);
+    let sum = between_operands(rt.alloc(), &mut notes, HERE, THERE, add, one, two)?;
+    assert!(rt; matches!(sum, Meaning::Value(_)));
+    assert_eq!(rt; notes.len(), 0);
+    let text = scalar_node(THERE, Scalar::Text, ExprKind::Data(Blob::new(rt.alloc())));
+    let part = Operand::Literal(THERE, Lit::Number(2));
+    let div = BinaryOperator::Does(Operator::Div);
+    between_operands(
+        rt.alloc(),
+        &mut notes,
+        HERE,
+        THERE,
+        div,
+        Operand::Value(text),
+        part,
+    )?;
+    assert!(rt; is_told(&notes, Rule::P14, HERE));
+    Ok(())
+}
+
+#[test]
+fn hexadecimal_digits_come_in_pairs(rt: HostRuntime) -> Result<(), Fail> {
+    let mut notes = Notes::new(rt.alloc());
+    let none = List::new(rt.alloc());
+    let digits = Lit::Text(Blob::from_slice(rt.alloc(), b"00fF")?);
+    let even = vec![in rt.alloc(); Known::Literal(0, THERE, digits)]?;
+    let bytes = applied(rt.alloc(), &mut notes, &none, HERE, Callee::FromHex, even)?;
+    assert!(rt; matches!(bytes, Meaning::Value(_)));
+    let digits = Lit::Text(Blob::from_slice(rt.alloc(), b"00f")?);
+    let odd = vec![in rt.alloc(); Known::Literal(0, THERE, digits)]?;
+    applied(rt.alloc(), &mut notes, &none, HERE, Callee::FromHex, odd)?;
+    assert!(rt; is_told(&notes, Rule::P14, THERE));
+    Ok(())
+}
+
+#[test]
+fn a_step_is_a_literal_from_one(rt: HostRuntime) -> Result<(), Fail> {
+    let mut notes = Notes::new(rt.alloc());
+    let none = List::new(rt.alloc());
+    let mut known = Vec::new(rt.alloc());
+    for number in 0..3 {
+        known.push(Known::Literal(number, THERE, Lit::Number(0)))?;
+    }
+    applied(rt.alloc(), &mut notes, &none, HERE, Callee::Ranges, known)?;
+    assert!(rt; is_told(&notes, Rule::P15, THERE));
+    Ok(())
+}
