@@ -4,3 +4,15 @@ pub mod Targets
 pub mod Statements
 pub mod Functions
 pub mod Whole
+pub mod Sights
+pub mod Noting
+pub mod Gathered
+pub mod Bindings
+pub mod Parting
+pub mod Updating
+pub mod Annotating
+pub mod Simples
+pub mod Looping
+pub mod Checking
+pub mod Firsts
+pub mod Placing
