@@ -1,10 +1,4 @@
 pub mod Equalities
 pub mod Indexed
 pub mod Reading
-pub mod CalleeLaws
-pub mod FittingLaws
-pub mod Lasts
-pub mod RangeLaws
-pub mod HexLaws
 pub mod CopyLaws
-pub mod CallingLaws

@@ -1,11 +1,5 @@
 pub mod Meanings
-pub mod Calls
 pub mod Operations
 pub mod Betweens
 pub mod Indexes
 pub mod Reads
-pub mod Callees
-pub mod Fittings
-pub mod Callings
-pub mod Hexes
-pub mod Ranges

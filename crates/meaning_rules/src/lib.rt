@@ -1,31 +1,19 @@
 //! What an expression means, from the meanings of its parts.
 #![tactic(auto)]
 
-mod applying;
-mod arguments;
-mod callee;
-mod calling;
 mod choosing;
-mod fitting;
-mod hexadecimal;
 mod meaning;
 mod named;
 mod operand;
 mod operators;
-mod ranges_called;
 mod scope;
-mod slots;
 mod subscripts;
 mod telling;
 #[cfg(test)]
 mod tests;
 mod types;
-mod types_called;
 mod values;
 
-pub use applying::applied;
-pub use arguments::{Known, given, slot_hope, tell_slot};
-pub use callee::{Callee, Slot, called, hope_at, takes_literal};
 pub use choosing::{choose_values, chosen};
 pub use meaning::{Context, Expect, Hope, Lit, Meaning, Range, Typed};
 pub use named::{
@@ -35,9 +23,14 @@ pub use named::{
 pub use operand::{End, Operand};
 pub use operators::{BinaryOperator, between_operands, has_between, two_values, unary_operand};
 pub use scope::{Local, Method, Scope, Status};
-pub use slots::{Used, slot_for};
 pub use subscripts::{
     a_number, end_of_bytes, index_hope, index_when, is_bytes, other_end, slice_when,
 };
-pub use types::copied;
-pub use values::{as_operand, condition, fits_type, fits_when, hoped, literal, settled, value};
+pub use telling::{
+    break_rule, breaks, expr_in, node, of_one, scalar_node, scalar_value, small, value_breaks,
+};
+pub use types::{copied, is_scalar, scalar_of};
+pub use values::{
+    as_operand, condition, fits_type, fits_when, hoped, lit_node, literal, literal_as, settled,
+    value,
+};

@@ -13,7 +13,7 @@ use source_names::SourceType;
 use std::alloc::Global;
 
 /// Notes a broken rule.
-pub(crate) fn break_rule(into: &mut Notes, rule: Rule, place: Place) -> Result<(), Memory>
+pub fn break_rule(into: &mut Notes, rule: Rule, place: Place) -> Result<(), Memory>
     ensures { OnOk result (into.new ≡ into.old ++ spec.broken rule place ∷ []) }
 {
     into.push(Note::Broken(Refusal { rule, place }))?;
@@ -21,7 +21,7 @@ pub(crate) fn break_rule(into: &mut Notes, rule: Rule, place: Place) -> Result<(
 }
 
 /// A broken rule, behind which nothing is known.
-pub(crate) fn breaks(into: &mut Notes, rule: Rule, place: Place) -> Result<Meaning, Memory>
+pub fn breaks(into: &mut Notes, rule: Rule, place: Place) -> Result<Meaning, Memory>
     ensures told { OnOk result (into.new ≡ into.old ++ (spec.breaks rule place).notes) }
     ensures meaning { IfOk result (λ m. m ≡ (spec.breaks rule place).meaning) }
 {
@@ -30,7 +30,7 @@ pub(crate) fn breaks(into: &mut Notes, rule: Rule, place: Place) -> Result<Meani
 }
 
 /// A broken rule in place of a value.
-pub(crate) fn value_breaks(
+pub fn value_breaks(
     into: &mut Notes,
     rule: Rule,
     place: Place,
@@ -43,7 +43,7 @@ pub(crate) fn value_breaks(
 }
 
 /// A typed expression of one value.
-pub(crate) fn scalar_node(place: Place, scalar: Scalar, kind: ExprKind) -> Typed
+pub fn scalar_node(place: Place, scalar: Scalar, kind: ExprKind) -> Typed
     ensures { result ≡ spec.a_node place (SourceType.Scalar scalar) kind }
 {
     Typed {
@@ -57,14 +57,14 @@ pub(crate) fn scalar_node(place: Place, scalar: Scalar, kind: ExprKind) -> Typed
 }
 
 /// An expression that means a typed one of one value.
-pub(crate) fn scalar_value(place: Place, scalar: Scalar, kind: ExprKind) -> Meaning
+pub fn scalar_value(place: Place, scalar: Scalar, kind: ExprKind) -> Meaning
     ensures { result ≡ (spec.node place (SourceType.Scalar scalar) kind).meaning }
 {
     Meaning::Value(scalar_node(place, scalar, kind))
 }
 
 /// An expression that means a typed one.
-pub(crate) fn node(
+pub fn node(
     alloc: Global,
     place: Place,
     ty: SourceType,
@@ -84,7 +84,7 @@ pub(crate) fn node(
 }
 
 /// The number of a part of something, as typed trees write it. Of 2^32 parts or more there would be want of memory.
-pub(crate) fn small(number: u64) -> Result<u32, Memory>
+pub fn small(number: u64) -> Result<u32, Memory>
     ensures { IfOk result (λ n. n ≡ number) }
 {
     match u32::try_from(number) {
@@ -94,7 +94,7 @@ pub(crate) fn small(number: u64) -> Result<u32, Memory>
 }
 
 /// The typed tree alone.
-pub(crate) fn expr_in(typed: Typed) -> Expr
+pub fn expr_in(typed: Typed) -> Expr
     ensures { result ≡ typed.expr }
 {
     let Typed { ty: _ty, expr } = typed;
@@ -129,7 +129,7 @@ pub(crate) fn three_parts(alloc: Global, a: Expr, b: Expr, c: Expr) -> Result<Ex
 }
 
 /// What the library does with one value.
-pub(crate) fn of_one(
+pub fn of_one(
     alloc: Global,
     place: Place,
     scalar: Scalar,

@@ -1,8 +1,5 @@
 //! What the rules say of a few expressions.
 
-use crate::applying::applied;
-use crate::arguments::Known;
-use crate::callee::Callee;
 use crate::meaning::{Hope, Lit, Meaning};
 use crate::operand::Operand;
 use crate::operators::{BinaryOperator, between_operands};
@@ -11,7 +8,7 @@ use crate::values::literal;
 use algopy_library::{Operator, Scalar};
 use awst::ExprKind;
 use path_rules::{Note, Notes};
-use puya_base::{Blob, List, Place, Rule};
+use puya_base::{Blob, Place, Rule};
 use std::test::Fail;
 
 const HERE: Place = Place { line: 1, col: 1 };
@@ -57,33 +54,5 @@ fn numbers_are_added_and_texts_are_not_divided(rt: HostRuntime) -> Result<(), Fa
         part,
     )?;
     assert!(rt; is_told(&notes, Rule::P14, HERE));
-    Ok(())
-}
-
-#[test]
-fn hexadecimal_digits_come_in_pairs(rt: HostRuntime) -> Result<(), Fail> {
-    let mut notes = Notes::new(rt.alloc());
-    let none = List::new(rt.alloc());
-    let digits = Lit::Text(Blob::from_slice(rt.alloc(), b"00fF")?);
-    let even = vec![in rt.alloc(); Known::Literal(0, THERE, digits)]?;
-    let bytes = applied(rt.alloc(), &mut notes, &none, HERE, Callee::FromHex, even)?;
-    assert!(rt; matches!(bytes, Meaning::Value(_)));
-    let digits = Lit::Text(Blob::from_slice(rt.alloc(), b"00f")?);
-    let odd = vec![in rt.alloc(); Known::Literal(0, THERE, digits)]?;
-    applied(rt.alloc(), &mut notes, &none, HERE, Callee::FromHex, odd)?;
-    assert!(rt; is_told(&notes, Rule::P14, THERE));
-    Ok(())
-}
-
-#[test]
-fn a_step_is_a_literal_from_one(rt: HostRuntime) -> Result<(), Fail> {
-    let mut notes = Notes::new(rt.alloc());
-    let none = List::new(rt.alloc());
-    let mut known = Vec::new(rt.alloc());
-    for number in 0..3 {
-        known.push(Known::Literal(number, THERE, Lit::Number(0)))?;
-    }
-    applied(rt.alloc(), &mut notes, &none, HERE, Callee::Ranges, known)?;
-    assert!(rt; is_told(&notes, Rule::P15, THERE));
     Ok(())
 }

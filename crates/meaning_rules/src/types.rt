@@ -11,7 +11,7 @@ use source_names::SourceType;
 use std::alloc::Global;
 
 /// The type's scalar, if it is one.
-pub(crate) fn scalar_of(ty: &SourceType) -> Option<Scalar>
+pub fn scalar_of(ty: &SourceType) -> Option<Scalar>
     ensures { result ≡ spec.scalar_of ty.now }
 {
     match ty {
@@ -22,7 +22,7 @@ pub(crate) fn scalar_of(ty: &SourceType) -> Option<Scalar>
 }
 
 /// Whether it is this scalar.
-pub(crate) fn is_scalar(scalar: Option<Scalar>, wanted: Scalar) -> bool
+pub fn is_scalar(scalar: Option<Scalar>, wanted: Scalar) -> bool
     ensures { result ≡ meanings.is_scalar scalar wanted }
 {
     match scalar {

@@ -37,7 +37,7 @@ fn is_of(ty: &SourceType, lit: &Lit) -> bool
 }
 
 /// A literal as a typed expression, of the one type that it can have.
-pub(crate) fn lit_node(place: Place, lit: Lit) -> Typed
+pub fn lit_node(place: Place, lit: Lit) -> Typed
     ensures { result ≡ spec.lit_node place lit }
 {
     match lit {
@@ -48,7 +48,7 @@ pub(crate) fn lit_node(place: Place, lit: Lit) -> Typed
 }
 
 /// A literal where this type is hoped for; P14 where it can't have it.
-pub(crate) fn literal_as(
+pub fn literal_as(
     into: &mut Notes,
     ty: &SourceType,
     place: Place,

@@ -52,9 +52,9 @@ use Rattle.meaning_rules.specs.declared.scope.Status.{Status}
 use Rattle.meaning_rules.specs.declared.scope.Status.TheVariants as status
 use Rattle.meaning_rules.specs.declared.operand.Operand.{Operand}
 use Rattle.meaning_rules.specs.declared.operand.Operand.TheVariants.{Value as a_value, Literal as a_literal, Missing as missing}
-use Rattle.meaning_rules.specs.declared.slots.Used.{Used}
+use Rattle.call_rules.specs.declared.slots.Used.{Used}
 use Rattle.meaning_rules.specs.Meanings.{Judged, Valued, Operated, broken, broken_all, unknown, breaks, says, after, a_node, node, no_value, value_breaks, a_typed, literal, lit_node, lit_type, operand_of, settled, value, fits_type, required, hoped, context, freely, part_hope, whole_hope, condition}
-use Rattle.meaning_rules.specs.Calls as calls
+use Rattle.call_rules.specs.Calls as calls
 use Rattle.meaning_rules.specs.Operations.{short_literal, judge_name, judge_member, judge_binary, judge_unary, judge_choose, no_parts, and_part, judge_tuple, no_items, and_item, judge_display, index_hope, based, judge_index, is_bytes, end_of, absent_end, judge_slice, Parts, Items, Ended}
 
 -- ---- expressions
