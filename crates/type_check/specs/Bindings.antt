@@ -1,13 +1,13 @@
 -- Single parts of expressions: a part of a tuple, an end of a slice, an argument of a call; and the arguments as the code gathers them.
 use Rattle.std.specs.Prelude.{ℕ, Bool, true, false, List, [], ◌∷◌, ◌++◌, Option, Some, None}
 use Rattle.source_names.specs.Source.{Ex, Maybe, absent, present, OneArg, place_of}
-use Rattle.meaning_rules.specs.declared.arguments.Known.{Known}
+use Rattle.call_rules.specs.declared.arguments.Known.{Known}
 use Rattle.meaning_rules.specs.declared.meaning.Context.{Context}
 use Rattle.meaning_rules.specs.declared.scope.Scope.{Scope}
-use Rattle.meaning_rules.specs.declared.slots.Used.{Used}
+use Rattle.call_rules.specs.declared.slots.Used.{Used}
 use Rattle.meaning_rules.specs.Meanings.{Valued, context, operand_of, part_hope, value}
 use Rattle.meaning_rules.specs.Operations.{Ended, absent_end, end_of}
-use Rattle.meaning_rules.specs.Calls as calls
+use Rattle.call_rules.specs.Calls as calls
 use Rattle.type_check.specs.Expressions.{judge}
 
 -- a part of a tuple

@@ -2,12 +2,13 @@
 
 ghost use Rattle.std.specs.Prelude.{◌≡◌, [], ◌∷◌, ◌++◌, ◌||◌, ◌&&◌, IfOk, OnOk, option_copied, true};
 ghost use Rattle.source_names.specs.Source as source;
-ghost use Rattle.meaning_rules.specs.Callees as callees;
-ghost use Rattle.meaning_rules.specs.Calls as spec;
+ghost use Rattle.call_rules.specs.Callees as callees;
+ghost use Rattle.call_rules.specs.Calls as spec;
 ghost use Rattle.type_check.specs.Bindings.{complete_with, known_with};
 ghost use Rattle.type_check.specs.Sights.{when_known};
 
-use meaning_rules::{Callee, Known, Meaning, Slot, Used, applied};
+use call_rules::{Callee, Known, Slot, Used, applied};
+use meaning_rules::Meaning;
 use path_rules::Notes;
 use puya_base::{List, Memory, Place};
 use py_grammar::{Arg, Tree, Word};

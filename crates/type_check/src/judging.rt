@@ -4,8 +4,8 @@ ghost use Rattle.std.specs.Prelude.{◌≡◌, ◌++◌, not, map, option_map, I
 ghost use Rattle.source_names.specs.Literals as literals;
 ghost use Rattle.source_names.specs.Source as source;
 ghost use Rattle.meaning_rules.specs.Betweens.{between_of};
-ghost use Rattle.meaning_rules.specs.Callees as callees;
-ghost use Rattle.meaning_rules.specs.Calls as calls;
+ghost use Rattle.call_rules.specs.Callees as callees;
+ghost use Rattle.call_rules.specs.Calls as calls;
 ghost use Rattle.meaning_rules.specs.Meanings as meanings;
 ghost use Rattle.meaning_rules.specs.Operations as operations;
 ghost use Rattle.type_check.specs.Bindings.{complete_with, known_with, end_in_context, given_at, part_of, used_at};
@@ -22,11 +22,11 @@ use crate::sight::Sight;
 use crate::tuples::{add_part, display_when, no_parts, tuple_when};
 use algopy_library::Operator;
 use awst::Expr;
+use call_rules::{Callee, called, given, slot_for, slot_hope, tell_slot};
 use meaning_rules::{
-    BinaryOperator, Callee, Context, End, Expect, Hope, Lit, Meaning, Operand, Typed,
-    as_operand, between_operands, bytes_literal, called, choose_values, condition, constant_says,
-    end_of_bytes, given, index_hope, index_when, is_bytes, other_end, settled, slice_when,
-    slot_for, slot_hope, tell_slot, text_literal, unary_operand,
+    BinaryOperator, Context, End, Expect, Hope, Lit, Meaning, Operand, Typed, as_operand,
+    between_operands, bytes_literal, choose_values, condition, constant_says, end_of_bytes,
+    index_hope, index_when, is_bytes, other_end, settled, slice_when, text_literal, unary_operand,
 };
 use path_rules::Notes;
 use puya_base::{Boxed, Memory, Place};

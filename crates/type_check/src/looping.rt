@@ -6,12 +6,10 @@ ghost use Rattle.meaning_rules.specs.Meanings as meanings;
 ghost use Rattle.type_check.specs.Looping as looping;
 ghost use Rattle.type_check.specs.Statements as spec;
 
-use crate::stating::{expr_in, one_stmt};
-use crate::telling::break_rule;
-use crate::types::scalar_of;
+use crate::stating::one_stmt;
 use algopy_library::Scalar;
 use awst::{Expr, StmtKind, Stmts};
-use meaning_rules::{Meaning, Operand, Range, Typed, as_operand};
+use meaning_rules::{Meaning, Operand, Range, Typed, as_operand, break_rule, expr_in, scalar_of};
 use path_rules::Notes;
 use puya_base::{Memory, Place, Rule};
 use source_names::SourceType;

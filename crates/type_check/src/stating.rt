@@ -4,19 +4,11 @@ ghost use Rattle.std.specs.Prelude.{◌≡◌, [], ◌∷◌, Some, IfOk};
 ghost use Rattle.type_check.specs.Statements as spec;
 ghost use Rattle.type_check.specs.Parting.{joined, known_nothing};
 
-use awst::{Expr, Stmt, StmtKind, Stmts, Target, Targets};
+use awst::{Stmt, StmtKind, Stmts, Target, Targets};
 use meaning_rules::{Typed, copied};
 use puya_base::{List, Memory, Place};
 use source_names::SourceType;
 use std::alloc::Global;
-
-/// The typed tree alone.
-pub(crate) fn expr_in(typed: Typed) -> Expr
-    ensures { result ≡ typed.expr }
-{
-    let Typed { ty: _ty, expr } = typed;
-    expr
-}
 
 /// The type alone, where it is known.
 pub(crate) fn type_in(

@@ -1,18 +1,10 @@
 //! Notes on broken rules.
 
-ghost use Rattle.std.specs.Prelude.{◌≡◌, [], ◌∷◌, ◌++◌, OnOk};
+ghost use Rattle.std.specs.Prelude.{◌≡◌, ◌++◌, OnOk};
 ghost use Rattle.meaning_rules.specs.Meanings as meanings;
 
 use path_rules::{Note, Notes};
-use puya_base::{Memory, Place, Refusal, Rule};
-
-/// Notes a broken rule.
-pub(crate) fn break_rule(into: &mut Notes, rule: Rule, place: Place) -> Result<(), Memory>
-    ensures { OnOk result (into.new ≡ into.old ++ meanings.broken rule place ∷ []) }
-{
-    into.push(Note::Broken(Refusal { rule, place }))?;
-    Ok(())
-}
+use puya_base::{Memory, Refusal};
 
 /// Notes these broken rules.
 pub(crate) fn note_all(into: &mut Notes, told: &[Refusal]) -> Result<(), Memory>

@@ -6,10 +6,8 @@ ghost use Rattle.meaning_rules.specs.Meanings as meanings;
 ghost use Rattle.meaning_rules.specs.Operations as spec;
 ghost use Rattle.type_check.specs.Gathered.{Gathers, known_with, types_with, exprs_with};
 
-use crate::telling::break_rule;
-use crate::types::tree_type;
-use awst::{Expr, ExprKind, Exprs};
-use meaning_rules::{Meaning, Typed};
+use awst::{ExprKind, Exprs};
+use meaning_rules::{Meaning, Typed, breaks, node};
 use path_rules::Notes;
 use puya_base::{List, Memory, Place, Rule};
 use source_names::{SourceType, fits_limits};
@@ -50,33 +48,6 @@ pub(crate) fn add_part(parts: &mut Parts, typed: Option<Typed>) -> Result<(), Me
     Ok(())
 }
 
-fn tuple_node(
-    alloc: Global,
-    place: Place,
-    ty: SourceType,
-    exprs: Exprs,
-) -> Result<Meaning, Memory>
-    ensures { IfOk result (λ m. m ≡ (meanings.node place ty (ExprKind.Tuple exprs)).meaning) }
-{
-    let below = tree_type(alloc, &ty)?;
-    Ok(Meaning::Value(Typed {
-        ty,
-        expr: Expr {
-            place,
-            ty: below,
-            kind: ExprKind::Tuple(exprs),
-        },
-    }))
-}
-
-fn breaks(into: &mut Notes, rule: Rule, place: Place) -> Result<Meaning, Memory>
-    ensures told { OnOk result (into.new ≡ into.old ++ (meanings.breaks rule place).notes) }
-    ensures meaning { IfOk result (λ m. m ≡ (meanings.breaks rule place).meaning) }
-{
-    break_rule(into, rule, place)?;
-    Ok(Meaning::Unknown)
-}
-
 fn within_limits(
     alloc: Global,
     into: &mut Notes,
@@ -88,7 +59,7 @@ fn within_limits(
     ensures meaning { (ts : List Typed) → exprs ≡ spec.exprs_in ts → IfOk result (λ m. m ≡ (spec.within_limits place ty ts).meaning) }
 {
     if fits_limits(&ty) {
-        tuple_node(alloc, place, ty, exprs)
+        node(alloc, place, ty, ExprKind::Tuple(exprs))
     } else {
         breaks(into, Rule::P13, place)
     }

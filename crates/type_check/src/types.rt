@@ -9,17 +9,6 @@ use puya_base::{List, Memory};
 use source_names::SourceType;
 use std::alloc::Global;
 
-/// The type's scalar, if it is one.
-pub(crate) fn scalar_of(ty: &SourceType) -> Option<Scalar>
-    ensures { result ≡ spec.scalar_of ty.now }
-{
-    match ty {
-        SourceType::Scalar(scalar) => Some(*scalar),
-        SourceType::Nothing => None,
-        SourceType::Tuple(_) => None,
-    }
-}
-
 /// Whether it is what a function without a result gives.
 pub(crate) fn is_nothing(ty: &SourceType) -> bool
     ensures { result ≡ spec.is_nothing ty.now }

@@ -14,13 +14,12 @@ use crate::assigning::{assign_one, bad_tree, local_hope, note_assign, variable_o
 use crate::locals::Locals;
 use crate::places::exprs_place;
 use crate::sight::Sight;
-use crate::stating::{expr_in, one_stmt};
+use crate::stating::one_stmt;
 use crate::targets::{exprs_name, exprs_unpacked, target_name};
-use crate::telling::break_rule;
 use crate::types::tuple_parts;
 use crate::values::exprs_value;
 use awst::{StmtKind, Stmts, Target, Targets};
-use meaning_rules::{Context, Expect, Hope, Local, Status, Typed, copied};
+use meaning_rules::{Context, Expect, Hope, Local, Status, Typed, break_rule, copied, expr_in};
 use path_rules::Notes;
 use puya_base::{List, Memory, Place, Rule};
 use py_grammar::{Exprs, Tree};

@@ -20,29 +20,20 @@ use crate::named::read_at;
 use crate::operators::update_operator;
 use crate::places::exprs_place;
 use crate::sight::Sight;
-use crate::stating::{expr_in, one_stmt, one_target};
+use crate::stating::{one_stmt, one_target};
 use crate::targets::exprs_name;
-use crate::telling::break_rule;
-use crate::types::scalar_of;
 use crate::values::tree_noted;
 use algopy_library::{Operation, Operator, Scalar, between};
 use awst::{StmtKind, Stmts};
 use meaning_rules::{
-    BinaryOperator, Hope, Lit, Operand, Typed, as_operand, copied, has_between, literal,
+    BinaryOperator, Lit, Operand, Typed, as_operand, expr_in, has_between, literal_as, scalar_of,
+    value_breaks,
 };
 use path_rules::Notes;
 use puya_base::{Memory, Place, Rule};
 use py_grammar::{Exprs, Tree, UpdateOp};
 use source_names::{SourceType, same_type};
 use std::alloc::Global;
-
-fn value_breaks(into: &mut Notes, place: Place) -> Result<Option<Typed>, Memory>
-    ensures told { OnOk result (into.new ≡ into.old ++ (meanings.value_breaks Rule.P14 place).notes) }
-    ensures typed { IfOk result (λ t. t ≡ (meanings.value_breaks Rule.P14 place).typed) }
-{
-    break_rule(into, Rule::P14, place)?;
-    Ok(None)
-}
 
 fn same_as(into: &mut Notes, ty: &SourceType, b: Typed) -> Result<Option<Typed>, Memory>
     ensures told { OnOk result (into.new ≡ into.old ++ (updates.same_as ty.now b).notes) }
@@ -51,7 +42,7 @@ fn same_as(into: &mut Notes, ty: &SourceType, b: Typed) -> Result<Option<Typed>,
     if same_type(ty, &b.ty) {
         Ok(Some(b))
     } else {
-        value_breaks(into, b.expr.place)
+        value_breaks(into, Rule::P14, b.expr.place)
     }
 }
 
@@ -68,26 +59,11 @@ fn agreed_value(
     if has_between(BinaryOperator::Does(operator), ty) {
         same_as(into, ty, b)
     } else {
-        value_breaks(into, place)
+        value_breaks(into, Rule::P14, place)
     }
 }
 
-fn wanted_literal(
-    alloc: Global,
-    into: &mut Notes,
-    ty: &SourceType,
-    at: Place,
-    lit: Lit,
-) -> Result<Option<Typed>, Memory>
-    ensures told { OnOk result (into.new ≡ into.old ++ (meanings.literal (Hope.Wants ty.now) at lit).notes) }
-    ensures typed { IfOk result (λ t. t ≡ (meanings.literal (Hope.Wants ty.now) at lit).typed) }
-{
-    let hope = Hope::Wants(copied(alloc, ty)?);
-    literal(into, &hope, at, lit)
-}
-
 fn agreed_literal(
-    alloc: Global,
     into: &mut Notes,
     place: Place,
     operator: Operator,
@@ -99,15 +75,14 @@ fn agreed_literal(
     ensures typed { IfOk result (λ t. t ≡ (updates.agreed_literal place operator ty.now at lit).typed) }
 {
     if has_between(BinaryOperator::Does(operator), ty) {
-        wanted_literal(alloc, into, ty, at, lit)
+        literal_as(into, ty, at, lit)
     } else {
-        value_breaks(into, place)
+        value_breaks(into, Rule::P14, place)
     }
 }
 
 /// The right operand beside a left one of a type.
 fn agreed(
-    alloc: Global,
     into: &mut Notes,
     place: Place,
     operator: Operator,
@@ -119,7 +94,7 @@ fn agreed(
 {
     match b {
         Operand::Value(b) => agreed_value(into, place, operator, ty, b),
-        Operand::Literal(at, lit) => agreed_literal(alloc, into, place, operator, ty, at, lit),
+        Operand::Literal(at, lit) => agreed_literal(into, place, operator, ty, at, lit),
         Operand::Missing => Ok(None),
     }
 }
@@ -183,7 +158,7 @@ fn updated_value(
     ensures told { OnOk result (into.new ≡ into.old ++ (spec.augmented_value place number operator a b).notes) }
     ensures typed { IfOk result (λ ss. ss ≡ (spec.augmented_value place number operator a b).typed) }
 {
-    let right = agreed(alloc, into, place, operator, &a.ty, b)?;
+    let right = agreed(into, place, operator, &a.ty, b)?;
     updated_when(alloc, place, number, operator, &a.ty, right)
 }
 
