@@ -1,1 +1,4 @@
 mod Rows
+mod Behind
+mod Seeing
+mod Variables

@@ -16,3 +16,4 @@ pub mod Looping
 pub mod Checking
 pub mod Firsts
 pub mod Placing
+pub mod Walking
