@@ -16,7 +16,7 @@ use crate::annotating::{differs, tell_differs};
 use crate::contexts::freely;
 use crate::judging::judge;
 use crate::locals::Locals;
-use crate::looping::{Over, for_stmt, over, turn_type};
+use crate::looping::{Over, for_stmt, over_meaning, turn_type};
 use crate::sight::Sight;
 use crate::simple::check_line;
 use crate::stating::{joined, nothing_known, one_stmt};
@@ -171,7 +171,7 @@ fn judge_over(
     ensures over { let e = source.tree_of tree.now in IfOk result (λ o. IsOver o (spec.over (source.place_of e) (judge (seen sight.now locals.now) meanings.freely e))) }
 {
     let meaning = judge(alloc, into, sight, locals, &freely(), tree)?;
-    over(into, place_of(tree), meaning)
+    over_meaning(into, place_of(tree), meaning)
 }
 
 /// The notes of a loop over its variable, behind which that counts as unassigned.

@@ -71,7 +71,7 @@ fn over_value(into: &mut Notes, place: Place, meaning: Meaning) -> Result<Over, 
 }
 
 /// What a `for` goes over where this is written; P14 on what it can't go over.
-pub(crate) fn over(into: &mut Notes, place: Place, meaning: Meaning) -> Result<Over, Memory>
+pub(crate) fn over_meaning(into: &mut Notes, place: Place, meaning: Meaning) -> Result<Over, Memory>
     ensures told { OnOk result (into.new ≡ into.old ++ (spec.over place (meanings.says meaning)).notes) }
     ensures over { IfOk result (λ o. looping.IsOver o (spec.over place (meanings.says meaning))) }
 {
