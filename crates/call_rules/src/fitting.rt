@@ -108,11 +108,10 @@ fn logged_when(scalar: Option<Scalar>) -> bool
     }
 }
 
-fn log_test(into: &mut Notes, number: usize, typed: Typed) -> Result<Option<Typed>, Memory>
-    ensures told { OnOk result (into.new ≡ into.old ++ (spec.log_test number typed).notes) }
-    ensures typed { IfOk result (λ t. t ≡ (spec.log_test number typed).typed) }
+fn log_test(into: &mut Notes, _number: usize, typed: Typed) -> Result<Option<Typed>, Memory>
+    ensures told { OnOk result (into.new ≡ into.old ++ (spec.log_test _number typed).notes) }
+    ensures typed { IfOk result (λ t. t ≡ (spec.log_test _number typed).typed) }
 {
-    let _ = number;
     let right = logged_when(scalar_of(&typed.ty));
     passes(into, right, typed)
 }
@@ -126,15 +125,29 @@ fn no_fit(alloc: Global) -> Fitted
     }
 }
 
+fn with_next(exprs: Exprs, typed: Typed) -> Result<Option<Exprs>, Memory>
+    ensures { IfOk result (λ es. es ≡ fittings.with_expr (Some exprs) (Some typed)) }
+{
+    let mut exprs = exprs;
+    exprs.push(expr_in(typed))?;
+    Ok(Some(exprs))
+}
+
+fn with_typed(exprs: Exprs, typed: Option<Typed>) -> Result<Option<Exprs>, Memory>
+    ensures { IfOk result (λ es. es ≡ fittings.with_expr (Some exprs) typed) }
+{
+    match typed {
+        Some(typed) => with_next(exprs, typed),
+        None => Ok(None),
+    }
+}
+
 fn with_expr(exprs: Option<Exprs>, typed: Option<Typed>) -> Result<Option<Exprs>, Memory>
     ensures { IfOk result (λ es. es ≡ fittings.with_expr exprs typed) }
 {
-    match (exprs, typed) {
-        (Some(mut exprs), Some(typed)) => {
-            exprs.push(expr_in(typed))?;
-            Ok(Some(exprs))
-        }
-        _ => Ok(None),
+    match exprs {
+        Some(exprs) => with_typed(exprs, typed),
+        None => Ok(None),
     }
 }
 

@@ -1,6 +1,6 @@
 //! Calls of `urange` (Algorand Python guide, "Control flow"), from two or three arguments or one; P14 and P15.
 
-ghost use Rattle.std.specs.Prelude.{◌≡◌, [], ◌∷◌, ◌++◌, IfOk, OnOk};
+ghost use Rattle.std.specs.Prelude.{◌≡◌, [], ◌∷◌, ◌++◌, Some, IfOk, OnOk};
 ghost use Rattle.call_rules.specs.Calls as spec;
 ghost use Rattle.call_rules.specs.Ranges as ranges;
 
@@ -64,16 +64,40 @@ fn step_of(into: &mut Notes, known: Known) -> Result<Option<u64>, Memory>
     }
 }
 
+fn range_by(start: Typed, stop: Typed, step: u64) -> Meaning
+    ensures { result ≡ spec.range_from (Some start) (Some stop) (Some step) }
+{
+    Meaning::Range(Range {
+        start: Some(expr_in(start)),
+        stop: expr_in(stop),
+        step,
+    })
+}
+
+fn range_up_to(start: Typed, stop: Typed, step: Option<u64>) -> Meaning
+    ensures { result ≡ spec.range_from (Some start) (Some stop) step }
+{
+    match step {
+        Some(step) => range_by(start, stop, step),
+        None => Meaning::Unknown,
+    }
+}
+
+fn range_behind(start: Typed, stop: Option<Typed>, step: Option<u64>) -> Meaning
+    ensures { result ≡ spec.range_from (Some start) stop step }
+{
+    match stop {
+        Some(stop) => range_up_to(start, stop, step),
+        None => Meaning::Unknown,
+    }
+}
+
 fn range_from(start: Option<Typed>, stop: Option<Typed>, step: Option<u64>) -> Meaning
     ensures { result ≡ spec.range_from start stop step }
 {
-    match (start, stop, step) {
-        (Some(start), Some(stop), Some(step)) => Meaning::Range(Range {
-            start: Some(expr_in(start)),
-            stop: expr_in(stop),
-            step,
-        }),
-        _ => Meaning::Unknown,
+    match start {
+        Some(start) => range_behind(start, stop, step),
+        None => Meaning::Unknown,
     }
 }
 

@@ -1,6 +1,6 @@
 //! Which parameter an argument is for (Python reference, 6.3.4): by position and then by keyword; P09 and P15 on these.
 
-ghost use Rattle.std.specs.Prelude.{◌≡◌, option_copied, slice_get};
+ghost use Rattle.std.specs.Prelude.{◌≡◌, None, Some, option_copied, slice_get};
 ghost use Rattle.call_rules.specs.Callees as callees;
 ghost use Rattle.call_rules.specs.Calls as spec;
 
@@ -44,13 +44,22 @@ fn param_named(params: &[Parameter], name: &str) -> Option<usize>
     None
 }
 
+fn keyed_at(place: Place, used: &[usize], number: usize) -> Slot
+    ensures { result ≡ spec.keyed place used.now (Some number) }
+{
+    if is_used(number, used) {
+        Slot::Wrong(Rule::P15, place)
+    } else {
+        Slot::At(number)
+    }
+}
+
 /// P09 on a keyword that names no parameter, P15 on one whose parameter has its argument.
 fn keyed(place: Place, used: &[usize], number: Option<usize>) -> Slot
     ensures { result ≡ spec.keyed place used.now number }
 {
     match number {
-        Some(number) if is_used(number, used) => Slot::Wrong(Rule::P15, place),
-        Some(number) => Slot::At(number),
+        Some(number) => keyed_at(place, used, number),
         None => Slot::Wrong(Rule::P09, place),
     }
 }
@@ -75,6 +84,13 @@ fn positional(signature: &Signature, i: usize, used: &Used, place: Place) -> Slo
     }
 }
 
+fn by_keyword(signature: &Signature, used: &Used, key: &Word) -> Slot
+    ensures { result ≡ spec.keyed key.now.place used.now.numbers (spec.param_from 0 key.now.name signature.now.params) }
+{
+    let number = param_named(signature.params.as_slice(), key.name.as_str());
+    keyed(key.place, used.numbers.as_slice(), number)
+}
+
 fn function_slot(
     signature: &Signature,
     i: usize,
@@ -85,11 +101,7 @@ fn function_slot(
     ensures { result ≡ spec.function_slot signature.now i used.now (option_copied key) place }
 {
     match key {
-        Some(key) => keyed(
-            key.place,
-            used.numbers.as_slice(),
-            param_named(signature.params.as_slice(), key.name.as_str()),
-        ),
+        Some(key) => by_keyword(signature, used, key),
         None => positional(signature, i, used, place),
     }
 }

@@ -1,5 +1,5 @@
 -- What the forms of a type are.
-use Rattle.std.proofs.Common.{◌≡◌, ◌∙◌, Bool, true, false, List, map, Option, Some, None, ap, sym}
+use Rattle.std.proofs.Common.{◌≡◌, ◌∙◌, true, false, List, map, Some, None, ap, sym}
 use Rattle.algopy_library.specs.declared.scalar.Scalar.{Scalar}
 use Rattle.puya_base.specs.declared.source.Place.{Place}
 use Rattle.awst.specs.declared.expression.ExprKind.{ExprKind}

@@ -4,7 +4,6 @@ use Rattle.std.specs.Prelude.{slice_get}
 use Rattle.puya_base.specs.declared.source.Place.{Place}
 use Rattle.source_names.specs.declared.types.SourceType.{SourceType}
 use Rattle.meaning_rules.specs.declared.meaning.Typed.{Typed}
-use Rattle.meaning_rules.specs.declared.meaning.Lit.{Lit}
 use Rattle.meaning_rules.specs.declared.meaning.Lit.TheVariants as lit
 use Rattle.meaning_rules.specs.declared.operand.Operand.{Operand}
 use Rattle.meaning_rules.specs.declared.operand.Operand.TheVariants as operand

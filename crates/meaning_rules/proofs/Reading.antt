@@ -1,5 +1,5 @@
 -- A member of a value is what its type's table has.
-use Rattle.std.proofs.Common.{◌≡◌, ℕ, List, Option, Some, None, refl}
+use Rattle.std.proofs.Common.{◌≡◌, Option, Some, None, refl}
 use Rattle.puya_base.specs.declared.source.Place.{Place}
 use Rattle.py_grammar.specs.declared.word.Word.{Word}
 use Rattle.algopy_library.specs.declared.scalar.Scalar.{Scalar}

@@ -1,5 +1,5 @@
 -- Parts of the rules on a read of a variable and on a member of a value, each for one case.
-use Rattle.std.specs.Prelude.{ℕ, List, [], ◌∷◌, Option, Some, None}
+use Rattle.std.specs.Prelude.{ℕ, List, ◌∷◌, Option, Some, None}
 use Rattle.puya_base.specs.declared.source.Place.{Place}
 use Rattle.puya_base.specs.declared.source.Rule.TheVariants as rule
 use Rattle.awst.specs.declared.expression.ExprKind.TheVariants as kind
