@@ -7,4 +7,9 @@ pub mod Annotations
 pub mod Headers
 pub mod Modules
 pub mod Classes
+pub mod Lookups
+pub mod Limits
+pub mod Parts
+pub mod Packages
+pub mod Bases
 pub mod Equations

@@ -1,7 +1,7 @@
 //! Signatures and the module's table.
 
 use crate::constant::Constant;
-use crate::named::Entry;
+use crate::module_names::ModuleNames;
 use crate::types::SourceType;
 use puya_base::{List, Name, Place};
 
@@ -23,7 +23,7 @@ pub struct Signature {
 /// What the module defines.
 #[derive(Drop)]
 pub struct Table {
-    pub entries: List<Entry>,
+    pub entries: ModuleNames,
     pub constants: List<Constant>,
     pub functions: List<Signature>,
 }
