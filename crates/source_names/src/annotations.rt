@@ -98,7 +98,7 @@ fn writes_nothing(ty: &Option<SourceType>) -> bool
 
 /// The type of a value: `None` is none.
 #[tactic(auto, unfolding(crate::specs::Parts::value_faults, crate::specs::Parts::value_type))]
-pub fn of_value(into: &mut List<Refusal>, annotation: Annotation) -> Result<Annotation, Memory>
+fn of_value(into: &mut List<Refusal>, annotation: Annotation) -> Result<Annotation, Memory>
     ensures told { OnOk result (into.new ≡ into.old ++ part.value_faults annotation.place annotation.ty) }
     ensures place { IfOk result (λ a. a.place ≡ annotation.place) }
     ensures ty { IfOk result (λ a. a.ty ≡ part.value_type annotation.ty) }
@@ -278,4 +278,16 @@ pub fn written(alloc: Global, into: &mut List<Refusal>, names: &ModuleNames, var
             applied_type(into, *place, thing, arguments)
         }
     }
+}
+
+/// What an annotation writes as the type of a value, which `None` is not. P08, P09 and P13 are told. On `Memory` some of what is told may
+/// stand.
+#[tactic(auto, using(crate::proofs::Writing::told_value, crate::proofs::Writing::value_is))]
+pub fn written_value(alloc: Global, into: &mut List<Refusal>, names: &ModuleNames, variables: &NameSet, tree: &TypeTree) -> Result<Annotation, Memory>
+    ensures told { OnOk result (into.new ≡ into.old ++ (spec.of_value (spec.written names.now variables.now tree.now)).faults) }
+    ensures place { IfOk result (λ a. a.place ≡ (spec.written names.now variables.now tree.now).place) }
+    ensures ty { IfOk result (λ a. a.ty ≡ (spec.of_value (spec.written names.now variables.now tree.now)).ty) }
+{
+    let annotation = written(alloc, into, names, variables, tree)?;
+    of_value(into, annotation)
 }

@@ -1,0 +1,5 @@
+mod Behind
+mod Seeing
+mod Parens
+mod ClassLines
+mod Lines

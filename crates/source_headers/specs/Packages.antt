@@ -1,0 +1,27 @@
+-- The packages that imports name, and what a line of a module defines, with the numbers that constants, functions and classes have behind it.
+use Rattle.std.specs.Prelude.{ℕ, suc, Bool, true, false, List, [], ◌∷◌, ◌++◌}
+use Rattle.py_grammar.specs.declared.module.Item.{Item}
+use Rattle.py_grammar.specs.declared.module.Item.TheVariants as item
+use Rattle.source_names.specs.declared.named.Thing.TheVariants as thing
+use Rattle.source_names.specs.declared.named.Entry.{Entry}
+use Rattle.source_headers.specs.declared.modules.Package.{Package}
+use Rattle.source_headers.specs.declared.modules.Package.TheVariants as kind
+use Rattle.source_headers.specs.Modules as modules
+
+abbrev pub meant : Package → modules.Package
+meant kind.Algopy = modules.algopy
+meant kind.AlgopyArc4 = modules.algopy_arc4
+meant kind.Typing = modules.typing
+meant kind.Another = modules.another
+
+abbrev pub constants_behind : ℕ → Item → ℕ
+constants_behind c (item.Const w v) = suc c
+constants_behind c _ = c
+
+abbrev pub functions_behind : ℕ → Item → ℕ
+functions_behind f (item.Func d) = suc f
+functions_behind f _ = f
+
+abbrev pub classes_behind : ℕ → Item → ℕ
+classes_behind k (item.Class d) = suc k
+classes_behind k _ = k

@@ -1,0 +1,43 @@
+//! The functions of a class that can be called on `self`.
+
+ghost use Rattle.std.specs.Prelude.{◌≡◌, ◌++◌, [], ◌∷◌, map, IfOk, OnOk};
+ghost use Rattle.source_headers.specs.Classes.{methods_from, functions};
+
+use crate::classes::is_program;
+use crate::counting::next_number;
+use puya_base::{List, Memory, Name};
+use py_grammar::{Func, Member};
+use source_names::{Method, Methods};
+use std::alloc::Global;
+
+/// Adds a function that is no program.
+fn add_method(alloc: Global, into: &mut List<Method>, number: u32, func: &Func) -> Result<(), Memory>
+    ensures { OnOk result (map (λ x. (x.name, x.function)) into.new ≡ map (λ x. (x.name, x.function)) into.old ++ methods_from number (func.now ∷ [])) }
+{
+    if is_program(func) {
+        return Ok(());
+    }
+    let name = Name::new(alloc, func.name.name.as_str())?;
+    into.push(Method {
+        name,
+        function: number,
+    })?;
+    Ok(())
+}
+
+/// The functions of a class that can be called as `self.m(..)`, where its first function has this number.
+pub fn methods_of(alloc: Global, first: u32, members: &[Member]) -> Result<Methods, Memory>
+    ensures { IfOk result (λ m. m ≡ methods_from first (functions members.now)) }
+{
+    let mut list = List::new(alloc);
+    let mut number = first;
+    let mut rest = members;
+    while let [member, behind @ ..] = rest {
+        if let Member::Func(func) = member {
+            add_method(alloc, &mut list, number, func)?;
+            number = next_number(number)?;
+        }
+        rest = behind;
+    }
+    Methods::of_list(alloc, list)
+}
