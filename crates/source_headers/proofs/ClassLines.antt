@@ -1,15 +1,21 @@
 -- Members and lines of a module, one after the other.
-use Rattle.std.proofs.Common.{◌≡◌, ℕ, ◌-◌, ◌≤◌, length, take, drop, get_or, List, [], ◌∷◌, ◌++◌, Bool, true, false, refl, sym, ap, ◌∙◌, append_assoc}
-use Rattle.std.specs.Prelude.{◌&&◌}
+use Rattle.std.proofs.Common.{◌≡◌, ℕ, suc, ◌-◌, ◌≤◌, length, take, drop, get_or, List, [], ◌∷◌, ◌++◌, Bool, true, false, refl, sym, ap, ◌∙◌, append_assoc}
+use Rattle.std.specs.Prelude.{◌&&◌, if◌then◌else◌}
+use Rattle.puya_base.specs.declared.source.Place.{Place}
+use Rattle.puya_base.specs.declared.source.Rule.TheVariants as rule
 use Rattle.puya_base.specs.declared.source.Refusal.{Refusal}
+use Rattle.py_grammar.specs.declared.module.Func.{Func}
+use Rattle.py_grammar.specs.declared.module.Class.{Class}
 use Rattle.py_grammar.specs.declared.module.Member.{Member}
 use Rattle.py_grammar.specs.declared.module.Member.TheVariants as member
 use Rattle.py_grammar.specs.declared.module.Item.{Item}
 use Rattle.py_grammar.specs.declared.module.Item.TheVariants as item
 use Rattle.source_names.specs.declared.named.Entry.{Entry}
-use Rattle.source_headers.specs.Headers.{twice}
+use Rattle.source_names.specs.Faults.{breaks}
+use Rattle.source_names.specs.Things.{dotted}
+use Rattle.source_headers.specs.Headers.{twice, signature}
 use Rattle.source_headers.specs.Classes as classes
-use Rattle.source_headers.specs.Bases.{member_again, with_member, item_told, other_item}
+use Rattle.source_headers.specs.Bases.{member_again, with_member, item_told, other_item, has_named, missing_told, wrong_program}
 use Rattle.source_headers.proofs.Behind.{first_and_behind}
 use Rattle.source_headers.proofs.Seeing.{again-twice}
 
@@ -57,3 +63,50 @@ other_more es (item.FromParen p ws ns b) is = refl
 other_more es (item.Const w v) is = refl
 other_more es (item.Func d) is = refl
 other_more es (item.Class c) is = refl
+
+pub other_behind : (es : List Entry) (i : Item) (is : List Item) → other_item es i ≡ true → classes.all_other es (classes.classes is) ≡ classes.all_other es (classes.classes (i ∷ is))
+other_behind es i is t = ap (λ b. b && classes.all_other es (classes.classes is)) (sym t) ∙ other_more es i is
+
+pub other_ends : (es : List Entry) (i : Item) (is : List Item) → other_item es i ≡ false → false ≡ classes.all_other es (classes.classes (i ∷ is))
+other_ends es i is t = ap (λ b. b && classes.all_other es (classes.classes is)) (sym t) ∙ other_more es i is
+
+-- ---- the programs among members
+
+missing_by : (p : Place) (q : Func → Bool) (i : ℕ) (f : Func) (ms : List Member) (v : Bool) → q f ≡ v
+    → ((j : ℕ) → missing_told p (has_named q ms) ≡ classes.missing p (classes.first_from j q (classes.functions ms)))
+    → missing_told p (has_named q (member.Func f ∷ ms)) ≡ classes.missing p (classes.first_from i q (classes.functions (member.Func f ∷ ms)))
+missing_by p q i f ms true t rest = rw t refl
+missing_by p q i f ms false t rest = rw t (rest (suc i))
+
+-- a program is missing where no function has its name
+pub missing_is : (p : Place) (q : Func → Bool) (i : ℕ) (ms : List Member) → missing_told p (has_named q ms) ≡ classes.missing p (classes.first_from i q (classes.functions ms))
+missing_is p q i [] = refl
+missing_is p q i (member.Text o ls ∷ ms) = missing_is p q i ms
+missing_is p q i (member.Pass o ∷ ms) = missing_is p q i ms
+missing_is p q i (member.Field w t ∷ ms) = missing_is p q i ms
+missing_is p q i (member.Func f ∷ ms) = missing_by p q i f ms (q f) refl (λ j. missing_is p q j ms)
+
+-- ---- programs with a wrong first line
+
+wrong_by : (es : List Entry) (f : Func) (a b : Bool) → classes.is_empty (signature es true f).params ≡ a → classes.wrong_result (signature es true f).result ≡ b
+    → (if wrong_program (signature es true f) then breaks rule.P12 f.place else []) ≡ classes.program_faults es f
+wrong_by es f true true t u = rw (t, u) refl
+wrong_by es f true false t u = rw (t, u) refl
+wrong_by es f false b t u = rw t refl
+
+pub wrong_is : (es : List Entry) (f : Func) → (if wrong_program (signature es true f) then breaks rule.P12 f.place else []) ≡ classes.program_faults es f
+wrong_is es f = wrong_by es f (classes.is_empty (signature es true f).params) (classes.wrong_result (signature es true f).result) refl refl
+
+pub program_wrong : (es : List Entry) (f : Func) → wrong_program (signature es true f) ≡ true → breaks rule.P12 f.place ≡ classes.program_faults es f
+program_wrong es f t = ap (λ b. if b then breaks rule.P12 f.place else []) (sym t) ∙ wrong_is es f
+
+pub program_right : (es : List Entry) (f : Func) → wrong_program (signature es true f) ≡ false → [] ≡ classes.program_faults es f
+program_right es f t = ap (λ b. if b then breaks rule.P12 f.place else []) (sym t) ∙ wrong_is es f
+
+-- ---- bases
+
+pub told_base : (es : List Entry) (c : Class) (told : List Refusal) (k : classes.Base) → k ≡ classes.base_of es c
+    → (told ++ (dotted es [] c.base).faults) ++ classes.base_faults es c k ≡ told ++ classes.class_faults es c
+told_base es c told k e =
+    ap (λ z. (told ++ (dotted es [] c.base).faults) ++ classes.base_faults es c z) e
+    ∙ append_assoc told (dotted es [] c.base).faults (classes.base_faults es c (classes.base_of es c))

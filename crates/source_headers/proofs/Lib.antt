@@ -3,3 +3,5 @@ mod Seeing
 mod Parens
 mod ClassLines
 mod Lines
+mod Dividing
+mod Naming

@@ -1,6 +1,8 @@
 -- What a class is by its base, as the code names it, the programs among members, and lines and members one at a time.
 use Rattle.std.specs.Prelude.{ℕ, Bool, true, false, if◌then◌else◌, List, [], ◌∷◌, ◌++◌}
 use Rattle.puya_base.specs.declared.source.Refusal.{Refusal}
+use Rattle.puya_base.specs.declared.source.Place.{Place}
+use Rattle.puya_base.specs.declared.source.Rule.TheVariants as rule
 use Rattle.py_grammar.specs.declared.module.Func.{Func}
 use Rattle.py_grammar.specs.declared.module.Member.{Member}
 use Rattle.py_grammar.specs.declared.module.Member.TheVariants as member
@@ -13,7 +15,8 @@ use Rattle.source_headers.specs.declared.classes.Base.TheVariants as base
 use Rattle.source_names.specs.Lookups.{with_name}
 use Rattle.py_grammar.specs.declared.expression.Tree.{Tree}
 use Rattle.source_names.specs.Source.{tree_of, place_of}
-use Rattle.source_headers.specs.Headers.{again, decorator, unwanted}
+use Rattle.source_headers.specs.Headers.{again, decorator, unwanted, all_unwanted, decorators}
+use Rattle.source_names.specs.Faults.{breaks}
 use Rattle.source_headers.specs.Classes as classes
 
 abbrev pub shown : Base → classes.Base
@@ -61,3 +64,11 @@ other_item es _ = true
 -- what is told of a decorator where none may stand
 abbrev pub unwanted_told : List Entry → Tree → List Refusal
 unwanted_told es d = (decorator es (tree_of d)).faults ++ unwanted (place_of (tree_of d)) (decorator es (tree_of d)).thing
+
+-- what is told of a function by what it is: a program has no decorator, every other function has `subroutine`
+abbrev pub kind_told : List Entry → Func → List Refusal
+kind_told es f = if classes.is_program f then all_unwanted es f.decorators ++ classes.program_faults es f else decorators es f.def f.decorators
+
+-- P12 on a program that is not there
+abbrev pub missing_told : Place → Bool → List Refusal
+missing_told p b = if b then [] else breaks rule.P12 p

@@ -1,8 +1,11 @@
 -- The packages that imports name, and what a line of a module defines, with the numbers that constants, functions and classes have behind it.
-use Rattle.std.specs.Prelude.{ℕ, suc, Bool, true, false, List, [], ◌∷◌, ◌++◌}
+use Rattle.std.specs.Prelude.{ℕ, suc, Bool, true, false, List, [], ◌∷◌, ◌++◌, if◌then◌else◌, Option, Some, None}
 use Rattle.py_grammar.specs.declared.module.Item.{Item}
 use Rattle.py_grammar.specs.declared.module.Item.TheVariants as item
 use Rattle.source_names.specs.declared.named.Thing.TheVariants as thing
+use Rattle.source_names.specs.declared.constant.Constant.{Constant}
+use Rattle.source_names.specs.declared.constant.Constant.TheVariants as constant
+use Rattle.source_names.specs.Literals.{is_short}
 use Rattle.source_names.specs.declared.named.Entry.{Entry}
 use Rattle.source_headers.specs.declared.modules.Package.{Package}
 use Rattle.source_headers.specs.declared.modules.Package.TheVariants as kind
@@ -25,3 +28,15 @@ functions_behind f _ = f
 abbrev pub classes_behind : ℕ → Item → ℕ
 classes_behind k (item.Class d) = suc k
 classes_behind k _ = k
+
+-- the bytes of a literal that is not too long
+abbrev pub short_joined : List ℕ → Option (List ℕ)
+short_joined b = if is_short b then Some b else None
+
+abbrev pub text_of : Option (List ℕ) → Constant
+text_of (Some b) = constant.Text b
+text_of None = constant.Unknown
+
+abbrev pub bytes_of : Option (List ℕ) → Constant
+bytes_of (Some b) = constant.Bytes b
+bytes_of None = constant.Unknown

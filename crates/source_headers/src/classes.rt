@@ -4,7 +4,7 @@ ghost use Rattle.std.specs.Prelude.{◌≡◌, ◌++◌, ◌&&◌, [], IfOk, OnO
 ghost use Rattle.source_headers.specs.Classes as spec;
 ghost use Rattle.source_names.specs.Things as things;
 ghost use Rattle.source_headers.specs.Headers.{twice, signature};
-ghost use Rattle.source_headers.specs.Bases.{shown, passes, has_named, wrong_program, member_again, with_member, item_told, other_item};
+ghost use Rattle.source_headers.specs.Bases.{shown, passes, has_named, wrong_program, member_again, with_member, item_told, other_item, kind_told, missing_told};
 ghost use Rattle.source_names.specs.Types as types;
 
 use crate::decorators::{all_unwanted, decorators};
@@ -127,7 +127,7 @@ fn program_faults(alloc: Global, into: &mut List<Refusal>, names: &ModuleNames, 
 {
     let signature = signature_of(alloc, names, true, func)?;
     if is_wrong_program(&signature) {
-        break_rule(into, Rule::P12, func.place)?;
+        return break_rule(into, Rule::P12, func.place);
     }
     Ok(())
 }
@@ -143,16 +143,22 @@ fn selfless(into: &mut List<Refusal>, func: &Func) -> Result<(), Memory>
 }
 
 /// A program has no decorator, every other function has `subroutine`.
+fn kind_faults(alloc: Global, into: &mut List<Refusal>, names: &ModuleNames, func: &Func) -> Result<(), Memory>
+    ensures { OnOk result (into.new ≡ into.old ++ kind_told names.now func.now) }
+{
+    if is_program(func) {
+        all_unwanted(into, names, func.decorators.as_slice())?;
+        program_faults(alloc, into, names, func)
+    } else {
+        decorators(into, names, func.def, func.decorators.as_slice())
+    }
+}
+
 fn function_faults(alloc: Global, into: &mut List<Refusal>, names: &ModuleNames, func: &Func) -> Result<(), Memory>
     ensures { OnOk result (into.new ≡ into.old ++ spec.function_faults names.now func.now) }
 {
     selfless(into, func)?;
-    if is_program(func) {
-        all_unwanted(into, names, func.decorators.as_slice())?;
-        program_faults(alloc, into, names, func)?;
-    } else {
-        decorators(into, names, func.def, func.decorators.as_slice())?;
-    }
+    kind_faults(alloc, into, names, func)?;
     signature_told(alloc, into, names, true, func)?;
     Ok(())
 }
@@ -258,17 +264,24 @@ fn has_clear(members: &[Member]) -> bool
     false
 }
 
+/// P12 on a program that is not there.
+fn missing(into: &mut List<Refusal>, place: Place, is_there: bool) -> Result<(), Memory>
+    ensures { OnOk result (into.new ≡ into.old ++ missing_told place is_there) }
+{
+    if is_there {
+        return Ok(());
+    }
+    break_rule(into, Rule::P12, place)
+}
+
 /// P12 on a contract without one of its programs.
 fn missing_programs(into: &mut List<Refusal>, class: &Class) -> Result<(), Memory>
     ensures { OnOk result (into.new ≡ into.old ++ spec.missing_programs class.now) }
 {
-    if !has_approval(class.members.as_slice()) {
-        break_rule(into, Rule::P12, class.name.place)?;
-    }
-    if !has_clear(class.members.as_slice()) {
-        break_rule(into, Rule::P12, class.name.place)?;
-    }
-    Ok(())
+    let has_its_approval = has_approval(class.members.as_slice());
+    missing(into, class.name.place, has_its_approval)?;
+    let has_its_clear = has_clear(class.members.as_slice());
+    missing(into, class.name.place, has_its_clear)
 }
 
 fn contract_faults(alloc: Global, into: &mut List<Refusal>, names: &ModuleNames, class: &Class) -> Result<(), Memory>
@@ -279,16 +292,24 @@ fn contract_faults(alloc: Global, into: &mut List<Refusal>, names: &ModuleNames,
     all_member_faults(alloc, into, names, class.members.as_slice())
 }
 
+/// P12 on another base.
+fn base_faults(alloc: Global, into: &mut List<Refusal>, names: &ModuleNames, class: &Class, base: Base) -> Result<(), Memory>
+    ensures { OnOk result (into.new ≡ into.old ++ spec.base_faults names.now class.now (shown base)) }
+{
+    match base {
+        Base::Contract => contract_faults(alloc, into, names, class),
+        Base::Another => break_rule(into, Rule::P12, class.name.place),
+        Base::Unknown => Ok(()),
+    }
+}
+
 /// The rules on names that a class breaks, the bodies of its functions aside: P08 to P10, P12, P13 and P22; P12 on another base.
 /// On `Memory` some of what is told may stand.
 pub fn class_faults(alloc: Global, into: &mut List<Refusal>, names: &ModuleNames, class: &Class) -> Result<(), Memory>
     ensures { OnOk result (into.new ≡ into.old ++ spec.class_faults names.now class.now) }
 {
-    match base_told(alloc, into, names, class)? {
-        Base::Contract => contract_faults(alloc, into, names, class),
-        Base::Another => break_rule(into, Rule::P12, class.name.place),
-        Base::Unknown => Ok(()),
-    }
+    let base = base_told(alloc, into, names, class)?;
+    base_faults(alloc, into, names, class, base)
 }
 
 fn item_class_faults(

@@ -1,11 +1,11 @@
 //! What a module defines (Python reference 7.11, 9.2): imports, constants, functions, classes; P08 to P11, and P14 on a constant's literal.
 
-ghost use Rattle.std.specs.Prelude.{◌≡◌, ◌++◌, ◌+◌, [], ◌∷◌, bytes_eq, false, IfOk, OnOk, if◌then◌else◌};
+ghost use Rattle.std.specs.Prelude.{◌≡◌, ◌++◌, ◌+◌, [], ◌∷◌, bytes_eq, IfOk, OnOk};
 ghost use Rattle.source_names.specs.Literals as literals;
 ghost use Rattle.source_headers.specs.Headers.{twice, signature};
 ghost use Rattle.source_headers.specs.Modules as spec;
 ghost use Rattle.algopy_library.specs.Packages as packages;
-ghost use Rattle.source_headers.specs.Packages.{meant, constants_behind, functions_behind, classes_behind};
+ghost use Rattle.source_headers.specs.Packages.{meant, constants_behind, functions_behind, classes_behind, short_joined, text_of, bytes_of};
 ghost use Rattle.py_grammar.specs.declared.module.Item.TheVariants as item_form;
 
 use crate::counting::next_number;
@@ -213,6 +213,16 @@ fn all_of_typing(imports: &[Import]) -> bool
     true
 }
 
+/// P11 on an import of what `typing` has not.
+fn typing_faults(into: &mut List<Refusal>, place: Place, imports: &[Import]) -> Result<(), Memory>
+    ensures { OnOk result (into.new ≡ into.old ++ spec.import_faults place spec.typing imports.now) }
+{
+    if all_of_typing(imports) {
+        return Ok(());
+    }
+    break_rule(into, Rule::P11, place)
+}
+
 /// P08 and P09 on the names of `algopy`, P11 on an import of anything else.
 fn import_faults(into: &mut List<Refusal>, place: Place, origin: Package, imports: &[Import]) -> Result<(), Memory>
     ensures { OnOk result (into.new ≡ into.old ++ spec.import_faults place (meant origin) imports.now) }
@@ -220,8 +230,8 @@ fn import_faults(into: &mut List<Refusal>, place: Place, origin: Package, import
     match origin {
         Package::Algopy => algopy_faults(into, imports),
         Package::AlgopyArc4 => Ok(()),
-        Package::Typing if all_of_typing(imports) => Ok(()),
-        Package::Typing | Package::Another => break_rule(into, Rule::P11, place),
+        Package::Typing => typing_faults(into, place, imports),
+        Package::Another => break_rule(into, Rule::P11, place),
     }
 }
 
@@ -237,7 +247,7 @@ fn module_faults(into: &mut List<Refusal>, place: Place, origin: Package) -> Res
 /// The bytes of literals side by side; P14 where they are over 4096.
 fn short_bytes(alloc: Global, into: &mut List<Refusal>, place: Place, parts: &[Literal]) -> Result<Option<Blob>, Memory>
     ensures told { OnOk result (into.new ≡ into.old ++ spec.long_fault place (literals.joined parts.now)) }
-    ensures value { IfOk result (λ o. o ≡ (if literals.is_short (literals.joined parts.now) then Some (literals.joined parts.now) else None)) }
+    ensures value { IfOk result (λ o. o ≡ short_joined (literals.joined parts.now)) }
 {
     let bytes = joined(alloc, parts)?;
     if is_short(bytes.as_slice()) {
@@ -245,6 +255,24 @@ fn short_bytes(alloc: Global, into: &mut List<Refusal>, place: Place, parts: &[L
     } else {
         break_rule(into, Rule::P14, place)?;
         Ok(None)
+    }
+}
+
+fn text_constant(bytes: Option<Blob>) -> Constant
+    ensures { result ≡ text_of bytes }
+{
+    match bytes {
+        Some(bytes) => Constant::Text(bytes),
+        None => Constant::Unknown,
+    }
+}
+
+fn bytes_constant(bytes: Option<Blob>) -> Constant
+    ensures { result ≡ bytes_of bytes }
+{
+    match bytes {
+        Some(bytes) => Constant::Bytes(bytes),
+        None => Constant::Unknown,
     }
 }
 
@@ -256,14 +284,14 @@ fn constant_of(alloc: Global, into: &mut List<Refusal>, value: &ConstValue) -> R
     match value {
         ConstValue::Number(literal) => Ok(Constant::Number(number_of(literal))),
         ConstValue::Flag(_, flag) => Ok(Constant::Flag(*flag)),
-        ConstValue::Text(place, parts) => match short_bytes(alloc, into, *place, parts.as_slice())? {
-            Some(bytes) => Ok(Constant::Text(bytes)),
-            None => Ok(Constant::Unknown),
-        },
-        ConstValue::Bytes(place, parts) => match short_bytes(alloc, into, *place, parts.as_slice())? {
-            Some(bytes) => Ok(Constant::Bytes(bytes)),
-            None => Ok(Constant::Unknown),
-        },
+        ConstValue::Text(place, parts) => {
+            let bytes = short_bytes(alloc, into, *place, parts.as_slice())?;
+            Ok(text_constant(bytes))
+        }
+        ConstValue::Bytes(place, parts) => {
+            let bytes = short_bytes(alloc, into, *place, parts.as_slice())?;
+            Ok(bytes_constant(bytes))
+        }
     }
 }
 

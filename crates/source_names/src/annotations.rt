@@ -24,7 +24,7 @@ pub struct Annotation {
     pub ty: Option<SourceType>,
 }
 
-/// What stands in the brackets of a type: whether each part is known, whether each known part is a type, and the types among them.
+/// What stands in the brackets of a type: whether each part is known, whether each is a type, and the types among them.
 #[derive(Drop)]
 struct Arguments {
     known: bool,
@@ -158,7 +158,7 @@ fn applied(into: &mut List<Refusal>, place: Place, thing: Thing, types: Option<L
     }
 }
 
-/// The types, where each known part is one.
+/// The types, where each part is one.
 fn types_of(arguments: Arguments) -> Option<List<SourceType>>
     ensures { result ≡ part.types_when arguments.typed arguments.types }
 {
@@ -205,7 +205,6 @@ fn argument_of(annotation: Annotation) -> Argument
 }
 
 #[cycle(written)]
-#[tactic(auto, using(crate::proofs::Writing::told_value, crate::proofs::Writing::value_is))]
 fn one_argument(alloc: Global, into: &mut List<Refusal>, names: &ModuleNames, variables: &NameSet, arg: &TypeArg) -> Result<Argument, Memory>
     ensures told { OnOk result (into.new ≡ into.old ++ part.argument_faults (part.argument names.now variables.now arg.now)) }
     ensures value { IfOk result (λ a. a ≡ part.argument_value (part.argument names.now variables.now arg.now)) }
@@ -227,14 +226,17 @@ fn add_argument(arguments: &mut Arguments, argument: Argument) -> Result<(), Mem
 {
     match argument {
         Argument::Type(ty) => arguments.types.push(ty)?,
-        Argument::Broken => arguments.known = false,
+        Argument::Broken => {
+            arguments.known = false;
+            arguments.typed = false;
+        }
         Argument::Number => arguments.typed = false,
     }
     Ok(())
 }
 
 #[cycle(written)]
-#[tactic(auto, using(crate::proofs::Writing::told_argument, crate::proofs::Writing::known_argument, crate::proofs::Writing::typed_argument, crate::proofs::Writing::gathered_first, crate::proofs::Writing::gathered_all))]
+#[tactic(auto, using(crate::proofs::Writing::gathered_first))]
 fn all_arguments(
     alloc: Global,
     into: &mut List<Refusal>,
