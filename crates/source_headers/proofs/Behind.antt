@@ -35,3 +35,14 @@ test_behind f xs x all is low cons h = cons (take (length xs - 1) (drop 1 xs)) �
 pub test_first : {A : Type 0} (f : List A → Bool) (xs : List A) (x : A) (v all : Bool) → x ≡ get_or xs 0 x → 1 ≤ length xs
     → ((ys : List A) → v ≡ f (x ∷ ys)) → f xs ≡ all → v ≡ all
 test_first f xs x v all is low cons h = cons (take (length xs - 1) (drop 1 xs)) ∙ ap f (sym (first_and_behind xs x is low)) ∙ h
+
+-- what is told one after the other
+pub then_two : {A : Type 0} (o s t a b : List A) → s ≡ o ++ a → t ≡ s ++ b → t ≡ o ++ (a ++ b)
+then_two o s t a b d e = e ∙ ap (λ z. z ++ b) d ∙ append_assoc o a b
+
+pub then_three : {A : Type 0} (o s t u a b c : List A) → s ≡ o ++ a → t ≡ s ++ b → u ≡ t ++ c → u ≡ o ++ (a ++ (b ++ c))
+then_three o s t u a b c d e f = then_two o s u a (b ++ c) d (then_two s t u b c e f)
+
+pub then_five : {A : Type 0} (o s t u v w a b c d e : List A) → s ≡ o ++ a → t ≡ s ++ b → u ≡ t ++ c → v ≡ u ++ d → w ≡ v ++ e → w ≡ o ++ (a ++ (b ++ (c ++ (d ++ e))))
+then_five o s t u v w a b c d e p q r x y =
+    then_two o s w a (b ++ (c ++ (d ++ e))) p (then_two s t w b (c ++ (d ++ e)) q (then_two t u w c (d ++ e) r (then_two u v w d e x y)))

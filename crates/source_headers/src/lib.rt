@@ -4,6 +4,7 @@
 mod classes;
 mod counting;
 mod decorators;
+mod defined;
 mod headers;
 mod methods;
 mod modules;
@@ -11,6 +12,7 @@ mod modules;
 mod tests;
 
 pub use classes::{Base, all_class_faults, base_of, class_faults, is_program, no_contract};
+pub use defined::Table;
 pub use headers::{clashes, myself, others, signature_of, signature_told};
 pub use methods::methods_of;
-pub use modules::{Table, table};
+pub use modules::table;

@@ -10,20 +10,13 @@ ghost use Rattle.py_grammar.specs.declared.module.Item.TheVariants as item_form;
 
 use crate::counting::next_number;
 use crate::decorators::decorators;
+use crate::defined::Table;
 use crate::headers::{again, signature_told};
 use algopy_library::{Row, package_named, typing_named};
 use puya_base::{Blob, List, Memory, Name, Place, Refusal, Rule};
 use py_grammar::{ConstValue, Func, Import, Item, Literal, Word};
 use source_names::{Constant, Entry, ModuleNames, NameSet, Signature, Thing, break_rule, is_short, joined, number_of};
 use std::alloc::Global;
-
-/// What the module defines.
-#[derive(Drop)]
-pub struct Table {
-    pub entries: ModuleNames,
-    pub constants: List<Constant>,
-    pub functions: List<Signature>,
-}
 
 /// Which names a module's import takes.
 #[derive(Clone, Copy, Debug, PartialEq, Eq)]
