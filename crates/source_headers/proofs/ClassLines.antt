@@ -16,7 +16,7 @@ use Rattle.source_names.specs.Things.{dotted}
 use Rattle.source_headers.specs.Headers.{twice, signature}
 use Rattle.source_headers.specs.Classes as classes
 use Rattle.source_headers.specs.Bases.{member_again, with_member, item_told, other_item, has_named, missing_told, wrong_program}
-use Rattle.source_headers.proofs.Behind.{first_and_behind}
+use Rattle.source_headers.proofs.Behind.{first_and_behind, then_two}
 use Rattle.source_headers.proofs.Seeing.{again-twice}
 
 -- a member, and then those behind it
@@ -110,3 +110,12 @@ pub told_base : (es : List Entry) (c : Class) (told : List Refusal) (k : classes
 told_base es c told k e =
     ap (λ z. (told ++ (dotted es [] c.base).faults) ++ classes.base_faults es c z) e
     ∙ append_assoc told (dotted es [] c.base).faults (classes.base_faults es c (classes.base_of es c))
+
+pub programs_missing : (c : Class) (told s t : List Refusal) (a b : Bool) (ms ns : List Member) → ms ≡ c.members → a ≡ has_named classes.is_approval ms
+    → s ≡ told ++ missing_told c.name.place a → ns ≡ c.members → b ≡ has_named classes.is_clear ns → t ≡ s ++ missing_told c.name.place b
+    → t ≡ told ++ classes.missing_programs c
+programs_missing c told s t a b ms ns is e d js f h =
+    then_two told s t (classes.missing c.name.place (classes.first_from 0 classes.is_approval (classes.functions c.members)))
+        (classes.missing c.name.place (classes.first_from 0 classes.is_clear (classes.functions c.members)))
+        (d ∙ ap (λ z. told ++ missing_told c.name.place z) (e ∙ ap (has_named classes.is_approval) is) ∙ ap (λ z. told ++ z) (missing_is c.name.place classes.is_approval 0 c.members))
+        (h ∙ ap (λ z. s ++ missing_told c.name.place z) (f ∙ ap (has_named classes.is_clear) js) ∙ ap (λ z. s ++ z) (missing_is c.name.place classes.is_clear 0 c.members))

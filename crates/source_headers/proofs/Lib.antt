@@ -5,3 +5,4 @@ mod ClassLines
 mod Lines
 mod Dividing
 mod Naming
+mod Calling

@@ -1,5 +1,5 @@
 -- What a class is by its base, as the code names it, the programs among members, and lines and members one at a time.
-use Rattle.std.specs.Prelude.{ℕ, Bool, true, false, if◌then◌else◌, List, [], ◌∷◌, ◌++◌}
+use Rattle.std.specs.Prelude.{ℕ, suc, Bool, true, false, if◌then◌else◌, List, [], ◌∷◌, ◌++◌}
 use Rattle.puya_base.specs.declared.source.Refusal.{Refusal}
 use Rattle.puya_base.specs.declared.source.Place.{Place}
 use Rattle.puya_base.specs.declared.source.Rule.TheVariants as rule
@@ -72,3 +72,8 @@ kind_told es f = if classes.is_program f then all_unwanted es f.decorators ++ cl
 -- P12 on a program that is not there
 abbrev pub missing_told : Place → Bool → List Refusal
 missing_told p b = if b then [] else breaks rule.P12 p
+
+-- the number of the next function, where a member is behind that with this number
+abbrev pub number_behind : ℕ → Member → ℕ
+number_behind n (member.Func f) = suc n
+number_behind n _ = n

@@ -3,6 +3,7 @@
 ghost use Rattle.std.specs.Prelude.{◌≡◌, ◌++◌, [], ◌∷◌, IfOk, OnOk, Some, None, MatchOption};
 ghost use Rattle.source_headers.specs.Headers as spec;
 ghost use Rattle.source_headers.specs.Headers.{again as again_told};
+ghost use Rattle.source_names.specs.Annotations.{of_value, written as written_by};
 ghost use Rattle.source_names.specs.Lookups.{with_name};
 
 use puya_base::{List, Memory, Name, Place, Refusal, Rule};
@@ -12,6 +13,15 @@ use source_names::{
     written_value,
 };
 use std::alloc::Global;
+
+/// What an annotation writes as the type of a value where no variable is in sight.
+fn value_alone(alloc: Global, into: &mut List<Refusal>, names: &ModuleNames, tree: &TypeTree) -> Result<Annotation, Memory>
+    ensures told { OnOk result (into.new ≡ into.old ++ (of_value (written_by names.now [] tree.now)).faults) }
+    ensures ty { IfOk result (λ a. a.ty ≡ (of_value (written_by names.now [] tree.now)).ty) }
+{
+    let variables = NameSet::new(alloc);
+    written_value(alloc, into, names, &variables, tree)
+}
 
 /// P13 on a parameter without an annotation.
 fn annotated(alloc: Global, into: &mut List<Refusal>, names: &ModuleNames, word: &Word, annotation: &Option<TypeTree>) -> Result<Annotation, Memory>
@@ -24,7 +34,7 @@ fn annotated(alloc: Global, into: &mut List<Refusal>, names: &ModuleNames, word:
             Ok(Annotation { place: word.place, ty: None })
         }
         Some(tree) => {
-            written_value(alloc, into, names, &NameSet::new(alloc), tree)
+            value_alone(alloc, into, names, tree)
         }
     }
 }
@@ -63,7 +73,7 @@ fn myself_annotated(alloc: Global, into: &mut List<Refusal>, names: &ModuleNames
     match annotation {
         None => Ok(()),
         Some(tree) => {
-            written_value(alloc, into, names, &NameSet::new(alloc), tree)?;
+            value_alone(alloc, into, names, tree)?;
             Ok(())
         }
     }

@@ -1,6 +1,6 @@
 //! What a module defines (Python reference 7.11, 9.2): imports, constants, functions, classes; P08 to P11, and P14 on a constant's literal.
 
-ghost use Rattle.std.specs.Prelude.{◌≡◌, ◌++◌, ◌+◌, [], ◌∷◌, bytes_eq, IfOk, OnOk};
+ghost use Rattle.std.specs.Prelude.{◌≡◌, ◌++◌, ◌+◌, [], ◌∷◌, bytes_eq, false, IfOk, OnOk};
 ghost use Rattle.source_names.specs.Literals as literals;
 ghost use Rattle.source_headers.specs.Headers.{twice, signature};
 ghost use Rattle.source_headers.specs.Modules as spec;
@@ -386,6 +386,20 @@ fn judge_item(alloc: Global, into: &mut List<Refusal>, names: &ModuleNames, cons
     }
 }
 
+/// Judges the lines of a module, and adds its constants and its signatures.
+fn judge_items(alloc: Global, into: &mut List<Refusal>, names: &ModuleNames, constants: &mut List<Constant>, functions: &mut List<Signature>, items: &[Item]) -> Result<(), Memory>
+    ensures told { OnOk result (into.new ≡ into.old ++ spec.all_item_faults names.now items.now) }
+    ensures constants { OnOk result (constants.new ≡ constants.old ++ spec.constants items.now) }
+    ensures functions { OnOk result (functions.new ≡ functions.old ++ spec.signatures names.now items.now) }
+{
+    let mut rest = items;
+    while let [item, behind @ ..] = rest {
+        judge_item(alloc, into, names, constants, functions, item)?;
+        rest = behind;
+    }
+    Ok(())
+}
+
 /// What a module defines. The rules on names that it breaks are told, its classes and the bodies of its functions aside: P08 to P11, P13, P14
 /// and P22. On `Memory` some of what is told may stand.
 pub fn table(alloc: Global, into: &mut List<Refusal>, items: &[Item]) -> Result<Table, Memory>
@@ -398,11 +412,7 @@ pub fn table(alloc: Global, into: &mut List<Refusal>, items: &[Item]) -> Result<
     defined_twice(alloc, into, names.entries())?;
     let mut constants = List::new(alloc);
     let mut functions = List::new(alloc);
-    let mut rest = items;
-    while let [item, behind @ ..] = rest {
-        judge_item(alloc, into, &names, &mut constants, &mut functions, item)?;
-        rest = behind;
-    }
+    judge_items(alloc, into, &names, &mut constants, &mut functions, items)?;
     Ok(Table {
         entries: names,
         constants,

@@ -6,7 +6,7 @@ use Rattle.source_headers.proofs.headers.parameters.Goals as goal
 pub loop-rest-preserved : goal.loop-rest-preserved
 loop-rest-preserved c = record {
   told = told_behind (all_annotated c.args.names.now) (annotated c.args.names.now c.param-item.result.name c.param-item.result.annotation).faults
-      c.loop-rest.rest.now c.param-item.result c.loop-rest.into c.parameter-made.new.into _
+      c.loop-rest.rest.now c.param-item.result c.loop-rest.into c.parameter.new.into _
       c.param-item.is c.in-len1-up.len_at_least (λ ys. refl) c.in_ok-made.ensures.told c.loop-rest.invariant.told;
   value = told_behind (parameters c.args.names.now) (parameter c.args.names.now c.param-item.result ∷ []) c.loop-rest.rest.now c.param-item.result
       c.loop-rest.list c.push.new.self _ c.param-item.is c.in-len1-up.len_at_least (λ ys. refl)
