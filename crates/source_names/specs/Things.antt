@@ -1,11 +1,10 @@
 -- What names and names with points between stand for. A rule is judged on a name only where the name before the point is known.
-use Rattle.std.specs.Prelude.{ℕ, ◌==◌, Bool, true, false, if◌then◌else◌, List, [], ◌∷◌, ◌++◌, bytes_eq, codes, Option, Some, None}
+use Rattle.std.specs.Prelude.{ℕ, Bool, true, false, if◌then◌else◌, List, [], ◌∷◌, ◌++◌, bytes_eq, codes, Option, Some, None}
 use Rattle.puya_base.specs.declared.source.Place.{Place}
 use Rattle.puya_base.specs.declared.source.Rule.TheVariants as rule
 use Rattle.puya_base.specs.declared.source.Refusal.{Refusal}
 use Rattle.py_grammar.specs.declared.word.Word.{Word}
 use Rattle.algopy_library.specs.declared.row.Row.{Row}
-use Rattle.algopy_library.specs.declared.row.Row.TheVariants as row
 use Rattle.algopy_library.specs.declared.member.Member.{Member}
 use Rattle.algopy_library.specs.declared.member.Member.TheVariants as member
 use Rattle.algopy_library.specs.Packages.{built_in}

@@ -111,7 +111,11 @@ fn of_value(into: &mut List<Refusal>, annotation: Annotation) -> Result<Annotati
 }
 
 /// P13 on a tuple that is too large.
-fn within_limits(into: &mut List<Refusal>, place: Place, ty: SourceType) -> Result<Annotation, Memory>
+fn within_limits(
+    into: &mut List<Refusal>,
+    place: Place,
+    ty: SourceType,
+) -> Result<Annotation, Memory>
     ensures told { OnOk result (into.new ≡ into.old ++ (spec.within_limits place ty).faults) }
     ensures place { IfOk result (λ a. a.place ≡ (spec.within_limits place ty).place) }
     ensures ty { IfOk result (λ a. a.ty ≡ (spec.within_limits place ty).ty) }
@@ -123,7 +127,11 @@ fn within_limits(into: &mut List<Refusal>, place: Place, ty: SourceType) -> Resu
     }
 }
 
-fn tuple_type(into: &mut List<Refusal>, place: Place, types: Option<List<SourceType>>) -> Result<Annotation, Memory>
+fn tuple_type(
+    into: &mut List<Refusal>,
+    place: Place,
+    types: Option<List<SourceType>>,
+) -> Result<Annotation, Memory>
     ensures told { OnOk result (into.new ≡ into.old ++ (spec.tuple_type place types).faults) }
     ensures place { IfOk result (λ a. a.place ≡ (spec.tuple_type place types).place) }
     ensures ty { IfOk result (λ a. a.ty ≡ (spec.tuple_type place types).ty) }
@@ -134,7 +142,12 @@ fn tuple_type(into: &mut List<Refusal>, place: Place, types: Option<List<SourceT
     }
 }
 
-fn applied_row(into: &mut List<Refusal>, place: Place, row: Row, types: Option<List<SourceType>>) -> Result<Annotation, Memory>
+fn applied_row(
+    into: &mut List<Refusal>,
+    place: Place,
+    row: Row,
+    types: Option<List<SourceType>>,
+) -> Result<Annotation, Memory>
     ensures told { OnOk result (into.new ≡ into.old ++ (spec.applied_row place row types).faults) }
     ensures place { IfOk result (λ a. a.place ≡ (spec.applied_row place row types).place) }
     ensures ty { IfOk result (λ a. a.ty ≡ (spec.applied_row place row types).ty) }
@@ -146,7 +159,12 @@ fn applied_row(into: &mut List<Refusal>, place: Place, row: Row, types: Option<L
 }
 
 /// A name with arguments, each of which is known.
-fn applied(into: &mut List<Refusal>, place: Place, thing: Thing, types: Option<List<SourceType>>) -> Result<Annotation, Memory>
+fn applied(
+    into: &mut List<Refusal>,
+    place: Place,
+    thing: Thing,
+    types: Option<List<SourceType>>,
+) -> Result<Annotation, Memory>
     ensures told { OnOk result (into.new ≡ into.old ++ (spec.applied place thing (record { faults = []; known = true; types = types })).faults) }
     ensures place { IfOk result (λ a. a.place ≡ place) }
     ensures ty { IfOk result (λ a. a.ty ≡ (spec.applied place thing (record { faults = []; known = true; types = types })).ty) }
@@ -205,7 +223,13 @@ fn argument_of(annotation: Annotation) -> Argument
 }
 
 #[cycle(written)]
-fn one_argument(alloc: Global, into: &mut List<Refusal>, names: &ModuleNames, variables: &NameSet, arg: &TypeArg) -> Result<Argument, Memory>
+fn one_argument(
+    alloc: Global,
+    into: &mut List<Refusal>,
+    names: &ModuleNames,
+    variables: &NameSet,
+    arg: &TypeArg,
+) -> Result<Argument, Memory>
     ensures told { OnOk result (into.new ≡ into.old ++ part.argument_faults (part.argument names.now variables.now arg.now)) }
     ensures value { IfOk result (λ a. a ≡ part.argument_value (part.argument names.now variables.now arg.now)) }
 {
@@ -263,7 +287,13 @@ fn all_arguments(
 /// What an annotation writes in a module with these names, inside a function with these variables: its place, and its type where that is
 /// known. P08, P09 and P13 are told. On `Memory` some of what is told may stand.
 #[cycle(written)]
-pub fn written(alloc: Global, into: &mut List<Refusal>, names: &ModuleNames, variables: &NameSet, tree: &TypeTree) -> Result<Annotation, Memory>
+pub fn written(
+    alloc: Global,
+    into: &mut List<Refusal>,
+    names: &ModuleNames,
+    variables: &NameSet,
+    tree: &TypeTree,
+) -> Result<Annotation, Memory>
     ensures told { OnOk result (into.new ≡ into.old ++ (spec.written names.now variables.now tree.now).faults) }
     ensures place { IfOk result (λ a. a.place ≡ (spec.written names.now variables.now tree.now).place) }
     ensures ty { IfOk result (λ a. a.ty ≡ (spec.written names.now variables.now tree.now).ty) }
@@ -285,7 +315,13 @@ pub fn written(alloc: Global, into: &mut List<Refusal>, names: &ModuleNames, var
 /// What an annotation writes as the type of a value, which `None` is not. P08, P09 and P13 are told. On `Memory` some of what is told may
 /// stand.
 #[tactic(auto, using(crate::proofs::Writing::told_value, crate::proofs::Writing::value_is))]
-pub fn written_value(alloc: Global, into: &mut List<Refusal>, names: &ModuleNames, variables: &NameSet, tree: &TypeTree) -> Result<Annotation, Memory>
+pub fn written_value(
+    alloc: Global,
+    into: &mut List<Refusal>,
+    names: &ModuleNames,
+    variables: &NameSet,
+    tree: &TypeTree,
+) -> Result<Annotation, Memory>
     ensures told { OnOk result (into.new ≡ into.old ++ (spec.of_value (spec.written names.now variables.now tree.now)).faults) }
     ensures place { IfOk result (λ a. a.place ≡ (spec.written names.now variables.now tree.now).place) }
     ensures ty { IfOk result (λ a. a.ty ≡ (spec.of_value (spec.written names.now variables.now tree.now)).ty) }

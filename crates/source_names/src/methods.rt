@@ -69,7 +69,11 @@ impl Methods {
     }
 }
 
-fn found_method(into: &mut List<Refusal>, place: Place, number: Option<u32>) -> Result<Thing, Memory>
+fn found_method(
+    into: &mut List<Refusal>,
+    place: Place,
+    number: Option<u32>,
+) -> Result<Thing, Memory>
     ensures told { OnOk result (into.new ≡ into.old ++ (spec.found_method place number).faults) }
     ensures thing { IfOk result (λ t. t ≡ (spec.found_method place number).thing) }
 {
@@ -80,7 +84,12 @@ fn found_method(into: &mut List<Refusal>, place: Place, number: Option<u32>) -> 
 }
 
 /// What stands behind a name that is no value, and a point; P08 or P09 where that is nothing.
-pub fn member_of(into: &mut List<Refusal>, methods: &Methods, thing: Thing, word: &Word) -> Result<Thing, Memory>
+pub fn member_of(
+    into: &mut List<Refusal>,
+    methods: &Methods,
+    thing: Thing,
+    word: &Word,
+) -> Result<Thing, Memory>
     ensures told { OnOk result (into.new ≡ into.old ++ (spec.member_of methods.now thing word.now).faults) }
     ensures thing { IfOk result (λ t. t ≡ (spec.member_of methods.now thing word.now).thing) }
 {

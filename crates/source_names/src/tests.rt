@@ -144,7 +144,13 @@ fn annotations_of_values(rt: HostRuntime) -> Result<(), Fail> {
     let place = Place { line: 1, col: 1 };
     let pair = TypeTree::Of(place, words, parts, false);
     assert_eq!(rt; value_written(alloc, &pair), Ok((true, 0)));
-    assert_eq!(rt; value_written(alloc, &TypeTree::None(place)), Ok((false, 1)));
-    assert_eq!(rt; value_written(alloc, &named(alloc, "Nowhere")?), Ok((false, 1)));
+    assert_eq!(rt;
+        value_written(alloc, &TypeTree::None(place)),
+        Ok((false, 1))
+    );
+    assert_eq!(rt;
+        value_written(alloc, &named(alloc, "Nowhere")?),
+        Ok((false, 1))
+    );
     Ok(())
 }

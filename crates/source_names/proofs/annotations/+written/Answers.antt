@@ -28,11 +28,11 @@ pub one_argument-returns-in_ok-of_value-in-Type-clause-told :
     goal.one_argument-returns-in_ok-of_value-in-Type-clause-told
 one_argument-returns-in_ok-of_value-in-Type-clause-told t c =
     type_told c.args.names.now c.args.variables.now c.args.into.now c.written.new.into c.of_value.new.into c.args.arg.now c.in-Type.tree
-        c.in_ok-annotation-in-Type.annotation.place c.in_ok-annotation-in-Type.annotation.ty
-        c.in-Type.is c.in_ok-annotation-in-Type.ensures.told c.in_ok-annotation-in-Type.ensures.place c.in_ok-annotation-in-Type.ensures.ty c.in_ok-of_value-in-Type.ensures.told
+    c.in_ok-annotation-in-Type.annotation.place c.in_ok-annotation-in-Type.annotation.ty
+    c.in-Type.is c.in_ok-annotation-in-Type.ensures.told c.in_ok-annotation-in-Type.ensures.place c.in_ok-annotation-in-Type.ensures.ty c.in_ok-of_value-in-Type.ensures.told
 
 pub one_argument-returns-in_ok-of_value-in-Type-clause-value :
     goal.one_argument-returns-in_ok-of_value-in-Type-clause-value
 one_argument-returns-in_ok-of_value-in-Type-clause-value t c =
     type_value c.args.names.now c.args.variables.now c.args.arg.now c.in-Type.tree c.in_ok-annotation-in-Type.annotation.ty c.in_ok-of_value-in-Type.field-0.ty c.argument_of.result
-        c.in-Type.is c.in_ok-annotation-in-Type.ensures.ty c.in_ok-of_value-in-Type.ensures.ty c.argument_of.ensures
+    c.in-Type.is c.in_ok-annotation-in-Type.ensures.ty c.in_ok-of_value-in-Type.ensures.ty c.argument_of.ensures
