@@ -116,6 +116,6 @@ pub programs_missing : (c : Class) (told s t : List Refusal) (a b : Bool) (ms ns
     → t ≡ told ++ classes.missing_programs c
 programs_missing c told s t a b ms ns is e d js f h =
     then_two told s t (classes.missing c.name.place (classes.first_from 0 classes.is_approval (classes.functions c.members)))
-        (classes.missing c.name.place (classes.first_from 0 classes.is_clear (classes.functions c.members)))
-        (d ∙ ap (λ z. told ++ missing_told c.name.place z) (e ∙ ap (has_named classes.is_approval) is) ∙ ap (λ z. told ++ z) (missing_is c.name.place classes.is_approval 0 c.members))
-        (h ∙ ap (λ z. s ++ missing_told c.name.place z) (f ∙ ap (has_named classes.is_clear) js) ∙ ap (λ z. s ++ z) (missing_is c.name.place classes.is_clear 0 c.members))
+    (classes.missing c.name.place (classes.first_from 0 classes.is_clear (classes.functions c.members)))
+    (d ∙ ap (λ z. told ++ missing_told c.name.place z) (e ∙ ap (has_named classes.is_approval) is) ∙ ap (λ z. told ++ z) (missing_is c.name.place classes.is_approval 0 c.members))
+    (h ∙ ap (λ z. s ++ missing_told c.name.place z) (f ∙ ap (has_named classes.is_clear) js) ∙ ap (λ z. s ++ z) (missing_is c.name.place classes.is_clear 0 c.members))

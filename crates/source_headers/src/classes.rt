@@ -43,7 +43,12 @@ fn thing_base(thing: Thing) -> Base
 }
 
 /// What a class is by its base, whose names are judged.
-fn base_told(alloc: Global, into: &mut List<Refusal>, names: &ModuleNames, class: &Class) -> Result<Base, Memory>
+fn base_told(
+    alloc: Global,
+    into: &mut List<Refusal>,
+    names: &ModuleNames,
+    class: &Class,
+) -> Result<Base, Memory>
     ensures told { OnOk result (into.new ≡ into.old ++ (things.dotted names.now [] class.now.base).faults) }
     ensures value { IfOk result (λ b. shown b ≡ spec.base_of names.now class.now) }
 {
@@ -122,7 +127,12 @@ fn is_wrong_program(signature: &Signature) -> bool
 }
 
 /// P12 on a program with a parameter but `self`, or that gives neither bool nor UInt64.
-fn program_faults(alloc: Global, into: &mut List<Refusal>, names: &ModuleNames, func: &Func) -> Result<(), Memory>
+fn program_faults(
+    alloc: Global,
+    into: &mut List<Refusal>,
+    names: &ModuleNames,
+    func: &Func,
+) -> Result<(), Memory>
     ensures { OnOk result (into.new ≡ into.old ++ spec.program_faults names.now func.now) }
 {
     let signature = signature_of(alloc, names, true, func)?;
@@ -143,7 +153,12 @@ fn selfless(into: &mut List<Refusal>, func: &Func) -> Result<(), Memory>
 }
 
 /// A program has no decorator, every other function has `subroutine`.
-fn kind_faults(alloc: Global, into: &mut List<Refusal>, names: &ModuleNames, func: &Func) -> Result<(), Memory>
+fn kind_faults(
+    alloc: Global,
+    into: &mut List<Refusal>,
+    names: &ModuleNames,
+    func: &Func,
+) -> Result<(), Memory>
     ensures { OnOk result (into.new ≡ into.old ++ kind_told names.now func.now) }
 {
     if is_program(func) {
@@ -154,7 +169,12 @@ fn kind_faults(alloc: Global, into: &mut List<Refusal>, names: &ModuleNames, fun
     }
 }
 
-fn function_faults(alloc: Global, into: &mut List<Refusal>, names: &ModuleNames, func: &Func) -> Result<(), Memory>
+fn function_faults(
+    alloc: Global,
+    into: &mut List<Refusal>,
+    names: &ModuleNames,
+    func: &Func,
+) -> Result<(), Memory>
     ensures { OnOk result (into.new ≡ into.old ++ spec.function_faults names.now func.now) }
 {
     selfless(into, func)?;
@@ -164,7 +184,12 @@ fn function_faults(alloc: Global, into: &mut List<Refusal>, names: &ModuleNames,
 }
 
 /// P12 on a field: a contract has none.
-fn member_faults(alloc: Global, into: &mut List<Refusal>, names: &ModuleNames, member: &Member) -> Result<(), Memory>
+fn member_faults(
+    alloc: Global,
+    into: &mut List<Refusal>,
+    names: &ModuleNames,
+    member: &Member,
+) -> Result<(), Memory>
     ensures { OnOk result (into.new ≡ into.old ++ spec.member_faults names.now member.now) }
 {
     match member {
@@ -174,7 +199,12 @@ fn member_faults(alloc: Global, into: &mut List<Refusal>, names: &ModuleNames, m
     }
 }
 
-fn all_member_faults(alloc: Global, into: &mut List<Refusal>, names: &ModuleNames, members: &[Member]) -> Result<(), Memory>
+fn all_member_faults(
+    alloc: Global,
+    into: &mut List<Refusal>,
+    names: &ModuleNames,
+    members: &[Member],
+) -> Result<(), Memory>
     ensures { OnOk result (into.new ≡ into.old ++ spec.all_member_faults names.now members.now) }
 {
     let mut rest = members;
@@ -204,11 +234,7 @@ fn note_member(
 }
 
 /// P10 on each member that is named as one before.
-fn members_twice(
-    alloc: Global,
-    into: &mut List<Refusal>,
-    members: &[Member],
-) -> Result<(), Memory>
+fn members_twice(alloc: Global, into: &mut List<Refusal>, members: &[Member]) -> Result<(), Memory>
     ensures { OnOk result (into.new ≡ into.old ++ twice [] (spec.member_names members.now)) }
 {
     let mut seen = NameSet::new(alloc);
@@ -284,7 +310,12 @@ fn missing_programs(into: &mut List<Refusal>, class: &Class) -> Result<(), Memor
     missing(into, class.name.place, has_its_clear)
 }
 
-fn contract_faults(alloc: Global, into: &mut List<Refusal>, names: &ModuleNames, class: &Class) -> Result<(), Memory>
+fn contract_faults(
+    alloc: Global,
+    into: &mut List<Refusal>,
+    names: &ModuleNames,
+    class: &Class,
+) -> Result<(), Memory>
     ensures { OnOk result (into.new ≡ into.old ++ spec.contract_faults names.now class.now) }
 {
     missing_programs(into, class)?;
@@ -293,7 +324,13 @@ fn contract_faults(alloc: Global, into: &mut List<Refusal>, names: &ModuleNames,
 }
 
 /// P12 on another base.
-fn base_faults(alloc: Global, into: &mut List<Refusal>, names: &ModuleNames, class: &Class, base: Base) -> Result<(), Memory>
+fn base_faults(
+    alloc: Global,
+    into: &mut List<Refusal>,
+    names: &ModuleNames,
+    class: &Class,
+    base: Base,
+) -> Result<(), Memory>
     ensures { OnOk result (into.new ≡ into.old ++ spec.base_faults names.now class.now (shown base)) }
 {
     match base {
@@ -305,7 +342,12 @@ fn base_faults(alloc: Global, into: &mut List<Refusal>, names: &ModuleNames, cla
 
 /// The rules on names that a class breaks, the bodies of its functions aside: P08 to P10, P12, P13 and P22; P12 on another base.
 /// On `Memory` some of what is told may stand.
-pub fn class_faults(alloc: Global, into: &mut List<Refusal>, names: &ModuleNames, class: &Class) -> Result<(), Memory>
+pub fn class_faults(
+    alloc: Global,
+    into: &mut List<Refusal>,
+    names: &ModuleNames,
+    class: &Class,
+) -> Result<(), Memory>
     ensures { OnOk result (into.new ≡ into.old ++ spec.class_faults names.now class.now) }
 {
     let base = base_told(alloc, into, names, class)?;

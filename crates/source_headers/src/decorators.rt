@@ -60,11 +60,7 @@ fn unwanted(into: &mut List<Refusal>, place: Place, thing: Thing) -> Result<(), 
 }
 
 /// P08, P09 and P22 on a decorator where none may stand.
-fn one_unwanted(
-    into: &mut List<Refusal>,
-    names: &ModuleNames,
-    tree: &Tree,
-) -> Result<(), Memory>
+fn one_unwanted(into: &mut List<Refusal>, names: &ModuleNames, tree: &Tree) -> Result<(), Memory>
     ensures { OnOk result (into.new ≡ into.old ++ unwanted_told names.now tree.now) }
 {
     let thing = decorator(into, names, tree)?;
@@ -108,7 +104,12 @@ fn wanted(into: &mut List<Refusal>, place: Place, thing: Thing) -> Result<(), Me
 }
 
 /// A function has one decorator, `subroutine`; P22 at `def` where it has none, and at each further one.
-pub(crate) fn decorators(into: &mut List<Refusal>, names: &ModuleNames, def: Place, trees: &[Tree]) -> Result<(), Memory>
+pub(crate) fn decorators(
+    into: &mut List<Refusal>,
+    names: &ModuleNames,
+    def: Place,
+    trees: &[Tree],
+) -> Result<(), Memory>
     ensures { OnOk result (into.new ≡ into.old ++ spec.decorators names.now def trees.now) }
 {
     match trees {

@@ -15,7 +15,12 @@ use source_names::{
 use std::alloc::Global;
 
 /// What an annotation writes as the type of a value where no variable is in sight.
-fn value_alone(alloc: Global, into: &mut List<Refusal>, names: &ModuleNames, tree: &TypeTree) -> Result<Annotation, Memory>
+fn value_alone(
+    alloc: Global,
+    into: &mut List<Refusal>,
+    names: &ModuleNames,
+    tree: &TypeTree,
+) -> Result<Annotation, Memory>
     ensures told { OnOk result (into.new ≡ into.old ++ (of_value (written_by names.now [] tree.now)).faults) }
     ensures ty { IfOk result (λ a. a.ty ≡ (of_value (written_by names.now [] tree.now)).ty) }
 {
@@ -24,22 +29,34 @@ fn value_alone(alloc: Global, into: &mut List<Refusal>, names: &ModuleNames, tre
 }
 
 /// P13 on a parameter without an annotation.
-fn annotated(alloc: Global, into: &mut List<Refusal>, names: &ModuleNames, word: &Word, annotation: &Option<TypeTree>) -> Result<Annotation, Memory>
+fn annotated(
+    alloc: Global,
+    into: &mut List<Refusal>,
+    names: &ModuleNames,
+    word: &Word,
+    annotation: &Option<TypeTree>,
+) -> Result<Annotation, Memory>
     ensures told { OnOk result (into.new ≡ into.old ++ (spec.annotated names.now word.now annotation.now).faults) }
     ensures ty { IfOk result (λ a. a.ty ≡ (spec.annotated names.now word.now annotation.now).ty) }
 {
     match annotation {
         None => {
             break_rule(into, Rule::P13, word.place)?;
-            Ok(Annotation { place: word.place, ty: None })
+            Ok(Annotation {
+                place: word.place,
+                ty: None,
+            })
         }
-        Some(tree) => {
-            value_alone(alloc, into, names, tree)
-        }
+        Some(tree) => { value_alone(alloc, into, names, tree) }
     }
 }
 
-fn parameter(alloc: Global, into: &mut List<Refusal>, names: &ModuleNames, param: &Param) -> Result<Parameter, Memory>
+fn parameter(
+    alloc: Global,
+    into: &mut List<Refusal>,
+    names: &ModuleNames,
+    param: &Param,
+) -> Result<Parameter, Memory>
     ensures told { OnOk result (into.new ≡ into.old ++ (spec.annotated names.now param.now.name param.now.annotation).faults) }
     ensures value { IfOk result (λ p. p ≡ spec.parameter names.now param.now) }
 {
@@ -52,7 +69,12 @@ fn parameter(alloc: Global, into: &mut List<Refusal>, names: &ModuleNames, param
 }
 
 /// The parameters of a function but `self`, with P13 on those that have no type.
-fn parameters(alloc: Global, into: &mut List<Refusal>, names: &ModuleNames, params: &[Param]) -> Result<List<Parameter>, Memory>
+fn parameters(
+    alloc: Global,
+    into: &mut List<Refusal>,
+    names: &ModuleNames,
+    params: &[Param],
+) -> Result<List<Parameter>, Memory>
     ensures told { OnOk result (into.new ≡ into.old ++ spec.all_annotated names.now params.now) }
     ensures value { IfOk result (λ ps. ps ≡ spec.parameters names.now params.now) }
 {
@@ -67,7 +89,12 @@ fn parameters(alloc: Global, into: &mut List<Refusal>, names: &ModuleNames, para
 }
 
 /// An annotation of `self` says nothing, but it writes a type.
-fn myself_annotated(alloc: Global, into: &mut List<Refusal>, names: &ModuleNames, annotation: &Option<TypeTree>) -> Result<(), Memory>
+fn myself_annotated(
+    alloc: Global,
+    into: &mut List<Refusal>,
+    names: &ModuleNames,
+    annotation: &Option<TypeTree>,
+) -> Result<(), Memory>
     ensures { OnOk result (into.new ≡ into.old ++ spec.myself_annotated names.now annotation.now) }
 {
     match annotation {
@@ -81,7 +108,13 @@ fn myself_annotated(alloc: Global, into: &mut List<Refusal>, names: &ModuleNames
 
 /// P10 on a name that stands before, which is seen from now on.
 #[tactic(auto, unfolding(crate::specs::Headers::again))]
-pub(crate) fn again(alloc: Global, into: &mut List<Refusal>, seen: &mut NameSet, name: &str, place: Place) -> Result<(), Memory>
+pub(crate) fn again(
+    alloc: Global,
+    into: &mut List<Refusal>,
+    seen: &mut NameSet,
+    name: &str,
+    place: Place,
+) -> Result<(), Memory>
     ensures told { OnOk result (into.new ≡ into.old ++ again_told seen.old name.now place) }
     ensures seen { OnOk result (seen.new ≡ with_name seen.old name.now) }
 {
@@ -98,7 +131,13 @@ fn twice(alloc: Global, into: &mut List<Refusal>, params: &[Param]) -> Result<()
     let mut seen = NameSet::new(alloc);
     let mut rest = params;
     while let [param, behind @ ..] = rest {
-        again(alloc, into, &mut seen, param.name.name.as_str(), param.name.place)?;
+        again(
+            alloc,
+            into,
+            &mut seen,
+            param.name.name.as_str(),
+            param.name.place,
+        )?;
         rest = behind;
     }
     Ok(())
@@ -115,7 +154,11 @@ pub fn clashes(into: &mut List<Refusal>, names: &ModuleNames, word: &Word) -> Re
 }
 
 /// P10 on each parameter that is named as a module name.
-fn param_clashes(into: &mut List<Refusal>, names: &ModuleNames, params: &[Param]) -> Result<(), Memory>
+fn param_clashes(
+    into: &mut List<Refusal>,
+    names: &ModuleNames,
+    params: &[Param],
+) -> Result<(), Memory>
     ensures { OnOk result (into.new ≡ into.old ++ spec.all_clashes names.now (spec.param_names params.now)) }
 {
     let mut rest = params;
@@ -164,7 +207,13 @@ pub fn others(inside: bool, params: &[Param]) -> &[Param]
     }
 }
 
-fn myself_faults(alloc: Global, into: &mut List<Refusal>, names: &ModuleNames, inside: bool, params: &[Param]) -> Result<(), Memory>
+fn myself_faults(
+    alloc: Global,
+    into: &mut List<Refusal>,
+    names: &ModuleNames,
+    inside: bool,
+    params: &[Param],
+) -> Result<(), Memory>
     ensures { OnOk result (into.new ≡ into.old ++ spec.myself_faults names.now (spec.divided inside params.now).myself) }
 {
     match myself(inside, params) {
@@ -174,7 +223,13 @@ fn myself_faults(alloc: Global, into: &mut List<Refusal>, names: &ModuleNames, i
 }
 
 /// P13 on a function without the type of its result.
-fn resulted(alloc: Global, into: &mut List<Refusal>, names: &ModuleNames, place: Place, annotation: &Option<TypeTree>) -> Result<Annotation, Memory>
+fn resulted(
+    alloc: Global,
+    into: &mut List<Refusal>,
+    names: &ModuleNames,
+    place: Place,
+    annotation: &Option<TypeTree>,
+) -> Result<Annotation, Memory>
     ensures told { OnOk result (into.new ≡ into.old ++ (spec.resulted names.now place annotation.now).faults) }
     ensures ty { IfOk result (λ a. a.ty ≡ (spec.resulted names.now place annotation.now).ty) }
 {
@@ -189,7 +244,13 @@ fn resulted(alloc: Global, into: &mut List<Refusal>, names: &ModuleNames, place:
 
 /// The signature of a function, `inside` a class or not. P08, P09, P10 and P13 on its first line are told. On `Memory` some of what is told
 /// may stand.
-pub fn signature_told(alloc: Global, into: &mut List<Refusal>, names: &ModuleNames, inside: bool, func: &Func) -> Result<Signature, Memory>
+pub fn signature_told(
+    alloc: Global,
+    into: &mut List<Refusal>,
+    names: &ModuleNames,
+    inside: bool,
+    func: &Func,
+) -> Result<Signature, Memory>
     ensures told { OnOk result (into.new ≡ into.old ++ spec.signature_faults names.now inside func.now) }
     ensures value { IfOk result (λ s. s ≡ spec.signature names.now inside func.now) }
 {
@@ -206,7 +267,12 @@ pub fn signature_told(alloc: Global, into: &mut List<Refusal>, names: &ModuleNam
 }
 
 /// The signature of a function, `inside` a class or not.
-pub fn signature_of(alloc: Global, names: &ModuleNames, inside: bool, func: &Func) -> Result<Signature, Memory>
+pub fn signature_of(
+    alloc: Global,
+    names: &ModuleNames,
+    inside: bool,
+    func: &Func,
+) -> Result<Signature, Memory>
     ensures { IfOk result (λ s. s ≡ spec.signature names.now inside func.now) }
 {
     let mut told = List::new(alloc);

@@ -12,7 +12,12 @@ use source_names::{Method, Methods};
 use std::alloc::Global;
 
 /// Adds a function that is no program.
-fn add_method(alloc: Global, into: &mut List<Method>, number: u32, func: &Func) -> Result<(), Memory>
+fn add_method(
+    alloc: Global,
+    into: &mut List<Method>,
+    number: u32,
+    func: &Func,
+) -> Result<(), Memory>
     ensures { OnOk result (map (λ x. (x.name, x.function)) into.new ≡ map (λ x. (x.name, x.function)) into.old ++ methods_from number (func.now ∷ [])) }
 {
     if is_program(func) {
@@ -27,7 +32,12 @@ fn add_method(alloc: Global, into: &mut List<Method>, number: u32, func: &Func) 
 }
 
 /// Adds a member that is a function and no program, and gives the number behind it.
-fn add_member(alloc: Global, into: &mut List<Method>, number: u32, member: &Member) -> Result<u32, Memory>
+fn add_member(
+    alloc: Global,
+    into: &mut List<Method>,
+    number: u32,
+    member: &Member,
+) -> Result<u32, Memory>
     ensures added { OnOk result (map (λ x. (x.name, x.function)) into.new ≡ map (λ x. (x.name, x.function)) into.old ++ methods_from number (functions (member.now ∷ []))) }
     ensures number { IfOk result (λ n. n ≡ number_behind number member.now) }
 {

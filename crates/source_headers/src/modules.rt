@@ -15,7 +15,10 @@ use crate::headers::{again, signature_told};
 use algopy_library::{Row, package_named, typing_named};
 use puya_base::{Blob, List, Memory, Name, Place, Refusal, Rule};
 use py_grammar::{ConstValue, Func, Import, Item, Literal, Word};
-use source_names::{Constant, Entry, ModuleNames, NameSet, Signature, Thing, break_rule, is_short, joined, number_of};
+use source_names::{
+    Constant, Entry, ModuleNames, NameSet, Signature, Thing, break_rule, is_short, joined,
+    number_of,
+};
 use std::alloc::Global;
 
 /// Which names a module's import takes.
@@ -143,7 +146,12 @@ fn module_thing(origin: Package) -> Thing
 }
 
 /// `import typing` is the one import of a module as a whole.
-fn add_module(alloc: Global, into: &mut List<Entry>, words: &[Word], known_as: &Option<Word>) -> Result<(), Memory>
+fn add_module(
+    alloc: Global,
+    into: &mut List<Entry>,
+    words: &[Word],
+    known_as: &Option<Word>,
+) -> Result<(), Memory>
     ensures { OnOk result (into.new ≡ into.old ++ spec.module_entry words.now known_as.now) }
 {
     let thing = module_thing(package_of(words));
@@ -217,7 +225,12 @@ fn typing_faults(into: &mut List<Refusal>, place: Place, imports: &[Import]) -> 
 }
 
 /// P08 and P09 on the names of `algopy`, P11 on an import of anything else.
-fn import_faults(into: &mut List<Refusal>, place: Place, origin: Package, imports: &[Import]) -> Result<(), Memory>
+fn import_faults(
+    into: &mut List<Refusal>,
+    place: Place,
+    origin: Package,
+    imports: &[Import],
+) -> Result<(), Memory>
     ensures { OnOk result (into.new ≡ into.old ++ spec.import_faults place (meant origin) imports.now) }
 {
     match origin {
@@ -238,7 +251,12 @@ fn module_faults(into: &mut List<Refusal>, place: Place, origin: Package) -> Res
 }
 
 /// The bytes of literals side by side; P14 where they are over 4096.
-fn short_bytes(alloc: Global, into: &mut List<Refusal>, place: Place, parts: &[Literal]) -> Result<Option<Blob>, Memory>
+fn short_bytes(
+    alloc: Global,
+    into: &mut List<Refusal>,
+    place: Place,
+    parts: &[Literal],
+) -> Result<Option<Blob>, Memory>
     ensures told { OnOk result (into.new ≡ into.old ++ spec.long_fault place (literals.joined parts.now)) }
     ensures value { IfOk result (λ o. o ≡ short_joined (literals.joined parts.now)) }
 {
@@ -270,7 +288,11 @@ fn bytes_constant(bytes: Option<Blob>) -> Constant
 }
 
 /// What a constant stands for; P14 on a literal of over 4096 bytes.
-fn constant_of(alloc: Global, into: &mut List<Refusal>, value: &ConstValue) -> Result<Constant, Memory>
+fn constant_of(
+    alloc: Global,
+    into: &mut List<Refusal>,
+    value: &ConstValue,
+) -> Result<Constant, Memory>
     ensures told { OnOk result (into.new ≡ into.old ++ spec.constant_faults value.now) }
     ensures value { IfOk result (λ c. c ≡ spec.constant_of value.now) }
 {
@@ -297,14 +319,24 @@ struct Counts {
 }
 
 /// Adds what a line defines.
-fn add_item(alloc: Global, into: &mut List<Entry>, counts: &Counts, item: &Item) -> Result<(), Memory>
+fn add_item(
+    alloc: Global,
+    into: &mut List<Entry>,
+    counts: &Counts,
+    item: &Item,
+) -> Result<(), Memory>
     ensures { OnOk result (into.new ≡ into.old ++ spec.entries_from counts.now.constants counts.now.functions counts.now.classes (item.now ∷ [])) }
 {
     match item {
         Item::Text(_, _) => Ok(()),
         Item::Import(_, words, known_as) => add_module(alloc, into, words.as_slice(), known_as),
         Item::From(_, words, imports) | Item::FromParen(_, words, imports, _) => {
-            add_imports(alloc, into, package_of(words.as_slice()), imports.as_slice())
+            add_imports(
+                alloc,
+                into,
+                package_of(words.as_slice()),
+                imports.as_slice(),
+            )
         }
         Item::Const(word, _) => add_entry(alloc, into, word, Thing::Constant(counts.constants)),
         Item::Func(func) => add_entry(alloc, into, &func.name, Thing::Function(counts.functions)),
@@ -318,12 +350,32 @@ fn behind_item(counts: Counts, item: &Item) -> Result<Counts, Memory>
     ensures functions { IfOk result (λ n. n.functions ≡ functions_behind counts.functions item.now) }
     ensures classes { IfOk result (λ n. n.classes ≡ classes_behind counts.classes item.now) }
 {
-    let Counts { constants, functions, classes } = counts;
+    let Counts {
+        constants,
+        functions,
+        classes,
+    } = counts;
     match item {
-        Item::Const(_, _) => Ok(Counts { constants: next_number(constants)?, functions, classes }),
-        Item::Func(_) => Ok(Counts { constants, functions: next_number(functions)?, classes }),
-        Item::Class(_) => Ok(Counts { constants, functions, classes: next_number(classes)? }),
-        _ => Ok(Counts { constants, functions, classes }),
+        Item::Const(_, _) => Ok(Counts {
+            constants: next_number(constants)?,
+            functions,
+            classes,
+        }),
+        Item::Func(_) => Ok(Counts {
+            constants,
+            functions: next_number(functions)?,
+            classes,
+        }),
+        Item::Class(_) => Ok(Counts {
+            constants,
+            functions,
+            classes: next_number(classes)?,
+        }),
+        _ => Ok(Counts {
+            constants,
+            functions,
+            classes,
+        }),
     }
 }
 
@@ -332,7 +384,11 @@ fn entries(alloc: Global, items: &[Item]) -> Result<List<Entry>, Memory>
     ensures { IfOk result (λ es. es ≡ spec.entries items.now) }
 {
     let mut list = List::new(alloc);
-    let mut counts = Counts { constants: 0, functions: 0, classes: 0 };
+    let mut counts = Counts {
+        constants: 0,
+        functions: 0,
+        classes: 0,
+    };
     let mut rest = items;
     while let [item, behind @ ..] = rest {
         add_item(alloc, &mut list, &counts, item)?;
@@ -355,7 +411,12 @@ fn defined_twice(alloc: Global, into: &mut List<Refusal>, entries: &[Entry]) -> 
     Ok(())
 }
 
-fn func_told(alloc: Global, into: &mut List<Refusal>, names: &ModuleNames, func: &Func) -> Result<Signature, Memory>
+fn func_told(
+    alloc: Global,
+    into: &mut List<Refusal>,
+    names: &ModuleNames,
+    func: &Func,
+) -> Result<Signature, Memory>
     ensures told { OnOk result (into.new ≡ into.old ++ spec.item_faults names.now (item_form.Func func.now)) }
     ensures value { IfOk result (λ s. s ≡ signature names.now false func.now) }
 {
@@ -364,7 +425,14 @@ fn func_told(alloc: Global, into: &mut List<Refusal>, names: &ModuleNames, func:
 }
 
 /// Judges a line, and adds its constant or its signature.
-fn judge_item(alloc: Global, into: &mut List<Refusal>, names: &ModuleNames, constants: &mut List<Constant>, functions: &mut List<Signature>, item: &Item) -> Result<(), Memory>
+fn judge_item(
+    alloc: Global,
+    into: &mut List<Refusal>,
+    names: &ModuleNames,
+    constants: &mut List<Constant>,
+    functions: &mut List<Signature>,
+    item: &Item,
+) -> Result<(), Memory>
     ensures told { OnOk result (into.new ≡ into.old ++ spec.item_faults names.now item.now) }
     ensures constants { OnOk result (constants.new ≡ constants.old ++ spec.constants (item.now ∷ [])) }
     ensures functions { OnOk result (functions.new ≡ functions.old ++ spec.signatures names.now (item.now ∷ [])) }
@@ -373,7 +441,12 @@ fn judge_item(alloc: Global, into: &mut List<Refusal>, names: &ModuleNames, cons
         Item::Text(_, _) | Item::Class(_) => Ok(()),
         Item::Import(place, words, _) => module_faults(into, *place, package_of(words.as_slice())),
         Item::From(place, words, imports) | Item::FromParen(place, words, imports, _) => {
-            import_faults(into, *place, package_of(words.as_slice()), imports.as_slice())
+            import_faults(
+                into,
+                *place,
+                package_of(words.as_slice()),
+                imports.as_slice(),
+            )
         }
         Item::Const(_, value) => {
             constants.push(constant_of(alloc, into, value)?)?;
@@ -387,7 +460,14 @@ fn judge_item(alloc: Global, into: &mut List<Refusal>, names: &ModuleNames, cons
 }
 
 /// Judges the lines of a module, and adds its constants and its signatures.
-fn judge_items(alloc: Global, into: &mut List<Refusal>, names: &ModuleNames, constants: &mut List<Constant>, functions: &mut List<Signature>, items: &[Item]) -> Result<(), Memory>
+fn judge_items(
+    alloc: Global,
+    into: &mut List<Refusal>,
+    names: &ModuleNames,
+    constants: &mut List<Constant>,
+    functions: &mut List<Signature>,
+    items: &[Item],
+) -> Result<(), Memory>
     ensures told { OnOk result (into.new ≡ into.old ++ spec.all_item_faults names.now items.now) }
     ensures constants { OnOk result (constants.new ≡ constants.old ++ spec.constants items.now) }
     ensures functions { OnOk result (functions.new ≡ functions.old ++ spec.signatures names.now items.now) }

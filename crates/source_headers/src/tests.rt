@@ -1,8 +1,10 @@
 //! What a small module defines, and the rules that a class breaks, asked once.
 
 use crate::{Table, all_class_faults, methods_of, no_contract, table};
-use py_grammar::{Block, Class, ConstValue, Func, Import, Item, Literal, Member, Param, Tree, TypeTree, Word};
 use puya_base::{Blob, List, Memory, Name, Place, Refusal, Rule};
+use py_grammar::{
+    Block, Class, ConstValue, Func, Import, Item, Literal, Member, Param, Tree, TypeTree, Word,
+};
 use source_names::Thing;
 use std::alloc::Global;
 use std::test::Fail;
@@ -27,7 +29,12 @@ fn named(alloc: Global, text: &str) -> Result<TypeTree, Memory> {
 }
 
 /// A function with one parameter, decorated as `subroutine`.
-fn func(alloc: Global, name: &str, param: &str, annotation: Option<TypeTree>) -> Result<Func, Memory> {
+fn func(
+    alloc: Global,
+    name: &str,
+    param: &str,
+    annotation: Option<TypeTree>,
+) -> Result<Func, Memory> {
     let mut decorators = List::new(alloc);
     decorators.push(Tree::Name(word(alloc, "subroutine")?))?;
     let mut params = List::new(alloc);

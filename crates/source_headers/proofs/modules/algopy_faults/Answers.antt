@@ -7,4 +7,4 @@ use Rattle.source_headers.proofs.modules.algopy_faults.Goals as goal
 pub loop-rest-preserved : goal.loop-rest-preserved
 loop-rest-preserved c =
     told_behind algopy_faults (name_faults c.import-item.result.name.place (package_named c.import-item.result.name.name)) c.loop-rest.rest.now c.import-item.result
-        c.loop-rest.into c.import_name.new.into _ c.import-item.is c.in-len1-up.len_at_least (λ ys. refl) c.in_ok-import_name.ensures c.loop-rest.invariant
+    c.loop-rest.into c.import_name.new.into _ c.import-item.is c.in-len1-up.len_at_least (λ ys. refl) c.in_ok-import_name.ensures c.loop-rest.invariant
