@@ -27,8 +27,7 @@ use Rattle.source_names.specs.declared.named.Thing.{Thing}
 use Rattle.source_names.specs.declared.named.Thing.TheVariants as thing
 use Rattle.source_names.specs.Types.{same_type, scalar_of, tuple_parts, fits_limits, same_scalar}
 use Rattle.source_names.specs.Literals.{is_short}
-use Rattle.source_names.specs.Things.{Found, module_name, member_of}
-use Rattle.source_names.specs.Headers.{is_myself}
+use Rattle.source_names.specs.Things.{Found, module_name, member_of, is_myself}
 use Rattle.source_names.specs.Source.{Between, does, and_then, or_else, is_in}
 use Rattle.meaning_rules.specs.declared.meaning.Hope.{Hope}
 use Rattle.meaning_rules.specs.declared.meaning.Hope.TheVariants as hope

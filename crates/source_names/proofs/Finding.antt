@@ -1,13 +1,15 @@
 -- Looking names up, in a map and in the lines that it stands for.
 use Rattle.std.proofs.Common.{◌≡◌, ℕ, suc, ◌+◌, arith, ◌<◌, length, take, get_or, List, [], ◌∷◌, ◌++◌, Bool, true, false, refl, sym, ap, ◌∙◌, cond}
-use Rattle.std.specs.Prelude.{Option, Some, None, is_some, bytes_eq, if◌then◌else◌, map}
+use Rattle.std.specs.Prelude.{Option, Some, None, is_some, bytes_eq, map}
 use Rattle.std.specs.Map.{lookup}
 use Rattle.std.proofs.lemmas.Slice.Eq.{bytes_eq-Decides}
 use Rattle.std.proofs.Math.Seq.{take-suc}
+use Rattle.std.proofs.lemmas.List.{map-append}
 use Rattle.indexmap.specs.IndexMap.{insert_entry}
 use Rattle.source_names.specs.declared.named.Entry.{Entry}
 use Rattle.source_names.specs.declared.named.Thing.{Thing}
-use Rattle.source_names.specs.Things.{entry_named}
+use Rattle.source_names.specs.declared.methods.Method.{Method}
+use Rattle.source_names.specs.Things.{entry_named, method_named}
 use Rattle.source_names.specs.Lookups.{first_of, value_at}
 
 same_by : (a b : List ℕ) (v w : Bool) → bytes_eq a b ≡ v → bytes_eq b a ≡ w → v ≡ w
@@ -100,3 +102,36 @@ one_line es i e n was now is low w h =
     ∙ ap (λ o. first_of o (value_at e.name e.thing n)) w
     ∙ sym (entry_named-append (take i es) e n)
     ∙ ap (λ xs. entry_named xs n) (sym (ap (λ j. take j es) (up i) ∙ take-suc es i e low ∙ ap (λ x. take i es ++ x ∷ []) (sym is)))
+
+method_more : (x : List ℕ × ℕ) (ms : List (List ℕ × ℕ)) (m : List ℕ × ℕ) (n : List ℕ) (v : Bool) → bytes_eq x.0 n ≡ v
+    → method_named (ms ++ m ∷ []) n ≡ first_of (method_named ms n) (value_at m.0 m.1 n)
+    → method_named ((x ∷ ms) ++ m ∷ []) n ≡ first_of (method_named (x ∷ ms) n) (value_at m.0 m.1 n)
+unfolding first_of
+method_more x ms m n true t rest = rw t refl
+method_more x ms m n false t rest = rw t rest
+
+-- the functions of one more
+method_named-append : (ms : List (List ℕ × ℕ)) (m : List ℕ × ℕ) (n : List ℕ) → method_named (ms ++ m ∷ []) n ≡ first_of (method_named ms n) (value_at m.0 m.1 n)
+unfolding value_at first_of
+method_named-append [] m n = refl
+method_named-append (x ∷ ms) m n = method_more x ms m n (bytes_eq x.0 n) refl (method_named-append ms m n)
+
+abbrev pair : Method → List ℕ × ℕ
+pair x = (x.name, x.function)
+
+pairs_more : (ms : List Method) (i : ℕ) (m : Method) → m ≡ get_or ms i m → i < length ms
+    → map {A = Method} {B = List ℕ × ℕ} pair (take (i + 1) ms) ≡ map {A = Method} {B = List ℕ × ℕ} pair (take i ms) ++ pair m ∷ []
+pairs_more ms i m is low =
+    ap (λ (j : ℕ). map {A = Method} {B = List ℕ × ℕ} pair (take j ms)) (up i)
+    ∙ ap (map {A = Method} {B = List ℕ × ℕ} pair) (take-suc ms i m low ∙ ap (λ x. take i ms ++ x ∷ []) (sym is))
+    ∙ map-append {A = Method} {B = List ℕ × ℕ} pair (take i ms) (m ∷ [])
+
+-- one function more
+pub one_method : (ms : List Method) (i : ℕ) (m : Method) (n : List ℕ) (was now : Option ℕ) → m ≡ get_or ms i m → i < length ms
+    → was ≡ method_named (map {A = Method} {B = List ℕ × ℕ} pair (take i ms)) n → now ≡ first_of was (value_at m.name m.function n)
+    → now ≡ method_named (map {A = Method} {B = List ℕ × ℕ} pair (take (i + 1) ms)) n
+one_method ms i m n was now is low w h =
+    h
+    ∙ ap (λ o. first_of o (value_at m.name m.function n)) w
+    ∙ sym (method_named-append (map {A = Method} {B = List ℕ × ℕ} pair (take i ms)) (pair m) n)
+    ∙ ap (λ xs. method_named xs n) (sym (pairs_more ms i m is low))

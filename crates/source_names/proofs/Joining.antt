@@ -1,5 +1,5 @@
 -- Literals side by side, one after the other.
-use Rattle.std.proofs.Common.{◌≡◌, ℕ, ◌-◌, ◌≤◌, List, [], ◌∷◌, ◌++◌, length, take, drop, get_or, sym, ap, ◌∙◌, append_assoc}
+use Rattle.std.proofs.Common.{◌≡◌, ℕ, ◌-◌, ◌≤◌, List, ◌++◌, length, take, drop, get_or, sym, ap, ◌∙◌, append_assoc}
 use Rattle.py_lexer.specs.Literals.{literal_value}
 use Rattle.py_grammar.specs.declared.word.Literal.{Literal}
 use Rattle.source_names.specs.Literals.{joined}

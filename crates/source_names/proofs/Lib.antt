@@ -6,5 +6,3 @@ mod Left
 mod Joining
 mod Writing
 mod Parens
-mod ClassLines
-mod Lines

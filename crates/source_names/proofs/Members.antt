@@ -1,11 +1,11 @@
 -- Names behind points, with what was told before.
-use Rattle.std.proofs.Common.{◌≡◌, ℕ, ◌-◌, ◌≤◌, List, [], ◌∷◌, ◌++◌, length, take, drop, get_or, refl, sym, ap, ◌∙◌, append_assoc, append-nil}
+use Rattle.std.proofs.Common.{◌≡◌, ℕ, ◌-◌, ◌≤◌, List, [], ◌∷◌, ◌++◌, length, take, drop, get_or, sym, ap, ◌∙◌, append_assoc, append-nil}
 use Rattle.puya_base.specs.declared.source.Refusal.{Refusal}
 use Rattle.py_grammar.specs.declared.word.Word.{Word}
 use Rattle.source_names.specs.declared.named.Thing.{Thing}
 use Rattle.source_names.proofs.Behind.{first_and_behind}
 use Rattle.source_names.specs.declared.named.Entry.{Entry}
-use Rattle.source_names.specs.Things.{Found, stands_for, behind, member_of, members_of, first_name, dotted}
+use Rattle.source_names.specs.Things.{Found, stands_for, member_of, members_of, first_name, dotted}
 
 -- what was told of a name stands before what is told of the names behind it
 told_before : (fs : List Refusal) (t : Thing) (ws : List Word)

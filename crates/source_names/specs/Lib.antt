@@ -4,12 +4,7 @@ pub mod Faults
 pub mod Source
 pub mod Things
 pub mod Annotations
-pub mod Headers
-pub mod Modules
-pub mod Classes
 pub mod Lookups
 pub mod Limits
 pub mod Parts
-pub mod Packages
-pub mod Bases
 pub mod Equations

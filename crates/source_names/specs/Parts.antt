@@ -1,5 +1,5 @@
 -- What stands in the brackets of a type, as the code gathers it.
-use Rattle.std.specs.Prelude.{ℕ, Bool, true, false, List, [], ◌∷◌, ◌++◌, if◌then◌else◌, Option, Some, None}
+use Rattle.std.specs.Prelude.{ℕ, Bool, false, List, [], ◌∷◌, ◌++◌, if◌then◌else◌, Option, Some, None}
 use Rattle.puya_base.specs.declared.source.Place.{Place}
 use Rattle.puya_base.specs.declared.source.Rule.TheVariants as rule
 use Rattle.puya_base.specs.declared.source.Refusal.{Refusal}
@@ -34,10 +34,10 @@ known_with k (seen.Type t) = k
 known_with k seen.Broken = false
 known_with k seen.Number = k
 
--- whether each known argument is a type
+-- whether each argument is a type
 abbrev pub typed_with : Bool → Seen → Bool
 typed_with b (seen.Type t) = b
-typed_with b seen.Broken = b
+typed_with b seen.Broken = false
 typed_with b seen.Number = false
 
 -- the types among the arguments

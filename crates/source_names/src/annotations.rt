@@ -24,7 +24,7 @@ pub struct Annotation {
     pub ty: Option<SourceType>,
 }
 
-/// What stands in the brackets of a type: whether each part is known, whether each known part is a type, and the types among them.
+/// What stands in the brackets of a type: whether each part is known, whether each is a type, and the types among them.
 #[derive(Drop)]
 struct Arguments {
     known: bool,
@@ -98,7 +98,7 @@ fn writes_nothing(ty: &Option<SourceType>) -> bool
 
 /// The type of a value: `None` is none.
 #[tactic(auto, unfolding(crate::specs::Parts::value_faults, crate::specs::Parts::value_type))]
-pub fn of_value(into: &mut List<Refusal>, annotation: Annotation) -> Result<Annotation, Memory>
+fn of_value(into: &mut List<Refusal>, annotation: Annotation) -> Result<Annotation, Memory>
     ensures told { OnOk result (into.new ≡ into.old ++ part.value_faults annotation.place annotation.ty) }
     ensures place { IfOk result (λ a. a.place ≡ annotation.place) }
     ensures ty { IfOk result (λ a. a.ty ≡ part.value_type annotation.ty) }
@@ -111,7 +111,11 @@ pub fn of_value(into: &mut List<Refusal>, annotation: Annotation) -> Result<Anno
 }
 
 /// P13 on a tuple that is too large.
-fn within_limits(into: &mut List<Refusal>, place: Place, ty: SourceType) -> Result<Annotation, Memory>
+fn within_limits(
+    into: &mut List<Refusal>,
+    place: Place,
+    ty: SourceType,
+) -> Result<Annotation, Memory>
     ensures told { OnOk result (into.new ≡ into.old ++ (spec.within_limits place ty).faults) }
     ensures place { IfOk result (λ a. a.place ≡ (spec.within_limits place ty).place) }
     ensures ty { IfOk result (λ a. a.ty ≡ (spec.within_limits place ty).ty) }
@@ -123,7 +127,11 @@ fn within_limits(into: &mut List<Refusal>, place: Place, ty: SourceType) -> Resu
     }
 }
 
-fn tuple_type(into: &mut List<Refusal>, place: Place, types: Option<List<SourceType>>) -> Result<Annotation, Memory>
+fn tuple_type(
+    into: &mut List<Refusal>,
+    place: Place,
+    types: Option<List<SourceType>>,
+) -> Result<Annotation, Memory>
     ensures told { OnOk result (into.new ≡ into.old ++ (spec.tuple_type place types).faults) }
     ensures place { IfOk result (λ a. a.place ≡ (spec.tuple_type place types).place) }
     ensures ty { IfOk result (λ a. a.ty ≡ (spec.tuple_type place types).ty) }
@@ -134,7 +142,12 @@ fn tuple_type(into: &mut List<Refusal>, place: Place, types: Option<List<SourceT
     }
 }
 
-fn applied_row(into: &mut List<Refusal>, place: Place, row: Row, types: Option<List<SourceType>>) -> Result<Annotation, Memory>
+fn applied_row(
+    into: &mut List<Refusal>,
+    place: Place,
+    row: Row,
+    types: Option<List<SourceType>>,
+) -> Result<Annotation, Memory>
     ensures told { OnOk result (into.new ≡ into.old ++ (spec.applied_row place row types).faults) }
     ensures place { IfOk result (λ a. a.place ≡ (spec.applied_row place row types).place) }
     ensures ty { IfOk result (λ a. a.ty ≡ (spec.applied_row place row types).ty) }
@@ -146,7 +159,12 @@ fn applied_row(into: &mut List<Refusal>, place: Place, row: Row, types: Option<L
 }
 
 /// A name with arguments, each of which is known.
-fn applied(into: &mut List<Refusal>, place: Place, thing: Thing, types: Option<List<SourceType>>) -> Result<Annotation, Memory>
+fn applied(
+    into: &mut List<Refusal>,
+    place: Place,
+    thing: Thing,
+    types: Option<List<SourceType>>,
+) -> Result<Annotation, Memory>
     ensures told { OnOk result (into.new ≡ into.old ++ (spec.applied place thing (record { faults = []; known = true; types = types })).faults) }
     ensures place { IfOk result (λ a. a.place ≡ place) }
     ensures ty { IfOk result (λ a. a.ty ≡ (spec.applied place thing (record { faults = []; known = true; types = types })).ty) }
@@ -158,7 +176,7 @@ fn applied(into: &mut List<Refusal>, place: Place, thing: Thing, types: Option<L
     }
 }
 
-/// The types, where each known part is one.
+/// The types, where each part is one.
 fn types_of(arguments: Arguments) -> Option<List<SourceType>>
     ensures { result ≡ part.types_when arguments.typed arguments.types }
 {
@@ -205,8 +223,13 @@ fn argument_of(annotation: Annotation) -> Argument
 }
 
 #[cycle(written)]
-#[tactic(auto, using(crate::proofs::Writing::told_value, crate::proofs::Writing::value_is))]
-fn one_argument(alloc: Global, into: &mut List<Refusal>, names: &ModuleNames, variables: &NameSet, arg: &TypeArg) -> Result<Argument, Memory>
+fn one_argument(
+    alloc: Global,
+    into: &mut List<Refusal>,
+    names: &ModuleNames,
+    variables: &NameSet,
+    arg: &TypeArg,
+) -> Result<Argument, Memory>
     ensures told { OnOk result (into.new ≡ into.old ++ part.argument_faults (part.argument names.now variables.now arg.now)) }
     ensures value { IfOk result (λ a. a ≡ part.argument_value (part.argument names.now variables.now arg.now)) }
 {
@@ -227,14 +250,17 @@ fn add_argument(arguments: &mut Arguments, argument: Argument) -> Result<(), Mem
 {
     match argument {
         Argument::Type(ty) => arguments.types.push(ty)?,
-        Argument::Broken => arguments.known = false,
+        Argument::Broken => {
+            arguments.known = false;
+            arguments.typed = false;
+        }
         Argument::Number => arguments.typed = false,
     }
     Ok(())
 }
 
 #[cycle(written)]
-#[tactic(auto, using(crate::proofs::Writing::told_argument, crate::proofs::Writing::known_argument, crate::proofs::Writing::typed_argument, crate::proofs::Writing::gathered_first, crate::proofs::Writing::gathered_all))]
+#[tactic(auto, using(crate::proofs::Writing::gathered_first))]
 fn all_arguments(
     alloc: Global,
     into: &mut List<Refusal>,
@@ -261,7 +287,13 @@ fn all_arguments(
 /// What an annotation writes in a module with these names, inside a function with these variables: its place, and its type where that is
 /// known. P08, P09 and P13 are told. On `Memory` some of what is told may stand.
 #[cycle(written)]
-pub fn written(alloc: Global, into: &mut List<Refusal>, names: &ModuleNames, variables: &NameSet, tree: &TypeTree) -> Result<Annotation, Memory>
+pub fn written(
+    alloc: Global,
+    into: &mut List<Refusal>,
+    names: &ModuleNames,
+    variables: &NameSet,
+    tree: &TypeTree,
+) -> Result<Annotation, Memory>
     ensures told { OnOk result (into.new ≡ into.old ++ (spec.written names.now variables.now tree.now).faults) }
     ensures place { IfOk result (λ a. a.place ≡ (spec.written names.now variables.now tree.now).place) }
     ensures ty { IfOk result (λ a. a.ty ≡ (spec.written names.now variables.now tree.now).ty) }
@@ -278,4 +310,22 @@ pub fn written(alloc: Global, into: &mut List<Refusal>, names: &ModuleNames, var
             applied_type(into, *place, thing, arguments)
         }
     }
+}
+
+/// What an annotation writes as the type of a value, which `None` is not. P08, P09 and P13 are told. On `Memory` some of what is told may
+/// stand.
+#[tactic(auto, using(crate::proofs::Writing::told_value, crate::proofs::Writing::value_is))]
+pub fn written_value(
+    alloc: Global,
+    into: &mut List<Refusal>,
+    names: &ModuleNames,
+    variables: &NameSet,
+    tree: &TypeTree,
+) -> Result<Annotation, Memory>
+    ensures told { OnOk result (into.new ≡ into.old ++ (spec.of_value (spec.written names.now variables.now tree.now)).faults) }
+    ensures place { IfOk result (λ a. a.place ≡ (spec.written names.now variables.now tree.now).place) }
+    ensures ty { IfOk result (λ a. a.ty ≡ (spec.of_value (spec.written names.now variables.now tree.now)).ty) }
+{
+    let annotation = written(alloc, into, names, variables, tree)?;
+    of_value(into, annotation)
 }

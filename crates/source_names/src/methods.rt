@@ -1,25 +1,22 @@
 //! The functions of a class that can be called on `self`.
 
-ghost use Rattle.std.specs.Prelude.{◌≡◌, ◌++◌, [], ◌∷◌, map, IfOk, OnOk};
-ghost use Rattle.source_names.specs.Classes.{methods_from, functions};
+ghost use Rattle.std.specs.Prelude.{◌≡◌, ◌++◌, [], map, IfOk, OnOk};
 ghost use Rattle.source_names.specs.Things as spec;
 
-use crate::classes::is_program;
-use crate::counting::next_number;
 use crate::lookup::note;
 use crate::named::Thing;
 use crate::things::{plain_member, undefined};
 use indexmap::IndexMap;
 use puya_base::{List, Memory, Name, Place, Refusal};
-use py_grammar::{Func, Member, Word};
+use py_grammar::Word;
 use std::alloc::Global;
 use std::marker::Model;
 
 /// A function's name and its number among the contract's functions.
 #[derive(Drop)]
-struct Method {
-    name: Name,
-    function: u32,
+pub struct Method {
+    pub name: Name,
+    pub function: u32,
 }
 
 /// The functions of a class that can be called on `self`, in order, with a map to look them up. A contract sees the list of their names and
@@ -53,7 +50,8 @@ impl Methods {
         }
     }
 
-    fn indexed(alloc: Global, list: List<Method>) -> Result<Methods, Memory>
+    /// These functions, to be looked up.
+    pub fn of_list(alloc: Global, list: List<Method>) -> Result<Methods, Memory>
         ensures { IfOk result (λ m. m ≡ map (λ x. (x.name, x.function)) list) }
     {
         let mut functions = IndexMap::new(alloc);
@@ -61,23 +59,6 @@ impl Methods {
             note(alloc, &mut functions, method.name.as_str(), method.function)?;
         }
         Ok(Methods { list, functions })
-    }
-
-    /// The functions of a class that can be called as `self.m(..)`, where its first function has this number.
-    pub fn of_members(alloc: Global, first: u32, members: &[Member]) -> Result<Methods, Memory>
-        ensures { IfOk result (λ m. m ≡ methods_from first (functions members.now)) }
-    {
-        let mut list = List::new(alloc);
-        let mut number = first;
-        let mut rest = members;
-        while let [member, behind @ ..] = rest {
-            if let Member::Func(func) = member {
-                add_method(alloc, &mut list, number, func)?;
-                number = next_number(number)?;
-            }
-            rest = behind;
-        }
-        Methods::indexed(alloc, list)
     }
 
     /// The number of a function that can be called on `self`.
@@ -88,21 +69,11 @@ impl Methods {
     }
 }
 
-fn add_method(alloc: Global, into: &mut List<Method>, number: u32, func: &Func) -> Result<(), Memory>
-    ensures { OnOk result (map (λ x. (x.name, x.function)) into.new ≡ map (λ x. (x.name, x.function)) into.old ++ methods_from number (func.now ∷ [])) }
-{
-    if is_program(func) {
-        return Ok(());
-    }
-    let name = Name::new(alloc, func.name.name.as_str())?;
-    into.push(Method {
-        name,
-        function: number,
-    })?;
-    Ok(())
-}
-
-fn found_method(into: &mut List<Refusal>, place: Place, number: Option<u32>) -> Result<Thing, Memory>
+fn found_method(
+    into: &mut List<Refusal>,
+    place: Place,
+    number: Option<u32>,
+) -> Result<Thing, Memory>
     ensures told { OnOk result (into.new ≡ into.old ++ (spec.found_method place number).faults) }
     ensures thing { IfOk result (λ t. t ≡ (spec.found_method place number).thing) }
 {
@@ -113,7 +84,12 @@ fn found_method(into: &mut List<Refusal>, place: Place, number: Option<u32>) -> 
 }
 
 /// What stands behind a name that is no value, and a point; P08 or P09 where that is nothing.
-pub fn member_of(into: &mut List<Refusal>, methods: &Methods, thing: Thing, word: &Word) -> Result<Thing, Memory>
+pub fn member_of(
+    into: &mut List<Refusal>,
+    methods: &Methods,
+    thing: Thing,
+    word: &Word,
+) -> Result<Thing, Memory>
     ensures told { OnOk result (into.new ≡ into.old ++ (spec.member_of methods.now thing word.now).faults) }
     ensures thing { IfOk result (λ t. t ≡ (spec.member_of methods.now thing word.now).thing) }
 {

@@ -1,8 +1,7 @@
 //! Sets of names.
 
 ghost use Rattle.std.specs.Prelude.{◌≡◌, [], IfOk, OnOk};
-ghost use Rattle.source_names.specs.Headers.{is_seen};
-ghost use Rattle.source_names.specs.Lookups.{with_name};
+ghost use Rattle.source_names.specs.Lookups.{is_seen, with_name};
 ghost use Rattle.source_names.specs.Things.{names_variable};
 
 use indexmap::IndexSet;

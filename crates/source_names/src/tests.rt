@@ -2,11 +2,11 @@
 
 use crate::{
     Entry, ModuleNames, NameSet, SourceType, Thing, dotted, fits_limits, is_short, joined,
-    module_name, number_of, same_type,
+    module_name, number_of, same_type, written_value,
 };
 use algopy_library::{Row, Scalar};
 use puya_base::{Blob, List, Memory, Name, Place};
-use py_grammar::{Literal, Word};
+use py_grammar::{Literal, TypeArg, TypeTree, Word};
 use std::alloc::Global;
 use std::test::Fail;
 
@@ -116,5 +116,41 @@ fn tuple_types(rt: HostRuntime) -> Result<(), Fail> {
     assert!(rt; same_type(&flagged, &pair(alloc, Scalar::Bool)?));
     assert!(rt; !same_type(&flagged, &pair(alloc, Scalar::Bytes)?));
     assert!(rt; fits_limits(&flagged));
+    Ok(())
+}
+
+/// A name as a type.
+fn named(alloc: Global, text: &str) -> Result<TypeTree, Memory> {
+    let mut words = List::new(alloc);
+    words.push(word(alloc, text)?)?;
+    Ok(TypeTree::Named(Place { line: 1, col: 1 }, words))
+}
+
+/// Whether an annotation writes a type of a value, and how many rules it breaks.
+fn value_written(alloc: Global, tree: &TypeTree) -> Result<(bool, usize), Memory> {
+    let mut told = List::new(alloc);
+    let annotation = written_value(alloc, &mut told, &names(alloc)?, &NameSet::new(alloc), tree)?;
+    Ok((annotation.ty.is_some(), told.len()))
+}
+
+#[test]
+fn annotations_of_values(rt: HostRuntime) -> Result<(), Fail> {
+    let alloc = rt.alloc();
+    let mut words = List::new(alloc);
+    words.push(word(alloc, "tuple")?)?;
+    let mut parts = List::new(alloc);
+    parts.push(TypeArg::Type(named(alloc, "Bytes")?))?;
+    parts.push(TypeArg::Type(named(alloc, "bool")?))?;
+    let place = Place { line: 1, col: 1 };
+    let pair = TypeTree::Of(place, words, parts, false);
+    assert_eq!(rt; value_written(alloc, &pair), Ok((true, 0)));
+    assert_eq!(rt;
+        value_written(alloc, &TypeTree::None(place)),
+        Ok((false, 1))
+    );
+    assert_eq!(rt;
+        value_written(alloc, &named(alloc, "Nowhere")?),
+        Ok((false, 1))
+    );
     Ok(())
 }

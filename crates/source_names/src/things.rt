@@ -11,6 +11,13 @@ use algopy_library::{Member, Row, built_in, member_named};
 use puya_base::{List, Memory, Place, Refusal, Rule};
 use py_grammar::Word;
 
+/// Whether a name is that of the contract itself in the functions of its class.
+pub fn is_myself(name: &str) -> bool
+    ensures { result ≡ spec.is_myself name.now }
+{
+    name == "self"
+}
+
 /// P09 on a name that nothing defines.
 pub(crate) fn undefined(into: &mut List<Refusal>, place: Place) -> Result<Thing, Memory>
     ensures told { OnOk result (into.new ≡ into.old ++ (spec.undefined place).faults) }

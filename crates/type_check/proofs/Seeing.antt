@@ -5,7 +5,9 @@ use Rattle.std.proofs.lemmas.Slice.Eq.{bytes_eq-Decides}
 use Rattle.py_grammar.specs.declared.word.Word.{Word}
 use Rattle.puya_base.specs.declared.source.Refusal.{Refusal}
 use Rattle.source_names.specs.declared.named.Entry.{Entry}
-use Rattle.source_names.specs.Headers.{all_clashes, clashes, is_myself, is_seen}
+use Rattle.source_headers.specs.Headers.{all_clashes, clashes}
+use Rattle.source_names.specs.Lookups.{is_seen}
+use Rattle.source_names.specs.Things.{is_myself}
 use Rattle.source_names.specs.Lookups.{with_name}
 use Rattle.meaning_rules.specs.declared.scope.Local.{Local}
 use Rattle.type_check.specs.Functions.{target_local}

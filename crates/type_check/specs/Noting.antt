@@ -2,7 +2,7 @@
 use Rattle.std.specs.Prelude.{ℕ, Bool, true, false, ◌&&◌, if◌then◌else◌, List, [], ◌∷◌, ◌++◌, Option, Some, None}
 use Rattle.py_grammar.specs.declared.word.Word.{Word}
 use Rattle.py_grammar.specs.declared.statement.Block.{Block}
-use Rattle.source_names.specs.Headers.{is_myself}
+use Rattle.source_names.specs.Things.{is_myself}
 use Rattle.source_names.specs.Lookups.{with_name}
 use Rattle.type_check.specs.Lines.{OneBranch, Sts, no_stmts, block_of}
 use Rattle.type_check.specs.Targets.{all_targets}

@@ -23,7 +23,7 @@ use meaning_rules::{Local, Status, break_rule};
 use path_rules::Notes;
 use puya_base::{List, Memory, Place, Rule};
 use py_grammar::{Exprs, TypeTree};
-use source_names::{Annotation, SourceType, of_value, same_type, written};
+use source_names::{Annotation, SourceType, same_type, written_value};
 use std::alloc::Global;
 
 /// The type that an annotation of a variable writes, where that is known.
@@ -39,8 +39,7 @@ fn annotation_of(
     ensures ty { IfOk result (λ a. a.ty ≡ (of_value (written sight.now.names (spec.local_names locals.now) tree.now)).ty) }
 {
     let mut told = List::new(alloc);
-    let annotation = written(alloc, &mut told, &sight.names, locals.names(), tree)?;
-    let annotation = of_value(&mut told, annotation)?;
+    let annotation = written_value(alloc, &mut told, &sight.names, locals.names(), tree)?;
     note_all(into, told.as_slice())?;
     Ok(annotation)
 }

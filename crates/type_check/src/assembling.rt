@@ -1,8 +1,8 @@
 //! The typed contracts of a module that breaks no rule.
 
 ghost use Rattle.std.specs.Prelude.{◌≡◌, [], None, Some, IfOk, OnOk};
-ghost use Rattle.source_names.specs.Classes as classes;
-ghost use Rattle.source_names.specs.Headers as headers;
+ghost use Rattle.source_headers.specs.Classes as classes;
+ghost use Rattle.source_headers.specs.Headers as headers;
 ghost use Rattle.type_check.specs.Functions as functions;
 ghost use Rattle.type_check.specs.Placing as placing;
 ghost use Rattle.type_check.specs.Sights.{seen};
@@ -14,7 +14,7 @@ use crate::sight::Sight;
 use awst::{Contract, Func as TypedFunc, Funcs};
 use puya_base::{List, Memory, Name, SourceFault};
 use py_grammar::{Class, Func, Item, Member};
-use source_names::{myself, signature_of};
+use source_headers::{myself, signature_of};
 use std::alloc::Global;
 
 /// The typed function, where it is known.

@@ -1,8 +1,8 @@
 //! The contracts of a module, and the rules that it breaks.
 
 ghost use Rattle.std.specs.Prelude.{◌≡◌, ◌++◌, [], ◌∷◌, IfOk, OnOk};
-ghost use Rattle.source_names.specs.Classes as classes;
-ghost use Rattle.source_names.specs.Headers as headers;
+ghost use Rattle.source_headers.specs.Classes as classes;
+ghost use Rattle.source_headers.specs.Headers as headers;
 ghost use Rattle.path_rules.specs.Rules.{IsFirst};
 ghost use Rattle.type_check.specs.Firsts.{IsFirstOf, first_in};
 ghost use Rattle.type_check.specs.Functions as functions;
@@ -20,7 +20,8 @@ use awst::Contract;
 use path_rules::broken;
 use puya_base::{List, Memory, Refusal, SourceFault};
 use py_grammar::{Class, Func, Item, Member, Module};
-use source_names::{Methods, Table, all_class_faults, myself, no_contract, signature_of, table};
+use source_headers::{Table, all_class_faults, myself, no_contract, signature_of, table};
+use source_names::Methods;
 use std::alloc::Global;
 
 /// What is found wrong so far: what is told, and the first rule that is broken on the paths of a function.

@@ -1,7 +1,7 @@
 //! Functions: their variables, their notes, the rules that they break, and the typed function; P10 on variables and P24.
 
 ghost use Rattle.std.specs.Prelude.{◌≡◌, ◌++◌, [], map, length, take, drop, None, Some, IfOk, OnOk, if◌then◌else◌};
-ghost use Rattle.source_names.specs.Headers as headers;
+ghost use Rattle.source_headers.specs.Headers as headers;
 ghost use Rattle.type_check.specs.Functions as spec;
 ghost use Rattle.type_check.specs.Noting.{with_names};
 ghost use Rattle.type_check.specs.Sights.{seen};

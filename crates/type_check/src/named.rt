@@ -1,7 +1,6 @@
 //! Names and members (Python reference, 6.2.1 and 6.3.1): what they mean where they stand; P08 and P09 on those that nothing defines.
 
 ghost use Rattle.std.specs.Prelude.{◌≡◌, ◌++◌, ◌&&◌, List, IfOk, OnOk, option_copied};
-ghost use Rattle.source_names.specs.Headers as headers;
 ghost use Rattle.meaning_rules.specs.Meanings as meanings;
 ghost use Rattle.meaning_rules.specs.Operations as spec;
 ghost use Rattle.source_names.specs.Things as things;
@@ -67,7 +66,7 @@ fn module_says(
 }
 
 fn is_myself(sight: &Sight, word: &Word) -> bool
-    ensures { result ≡ (sight.now.myself && headers.is_myself word.now.name) }
+    ensures { result ≡ (sight.now.myself && things.is_myself word.now.name) }
 {
     if sight.myself {
         word.name.as_str() == "self"

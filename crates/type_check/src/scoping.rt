@@ -1,13 +1,14 @@
 //! What the functions of a class see besides the module (Algorand Python guide, "Contracts").
 
 ghost use Rattle.std.specs.Prelude.{◌≡◌, length, IfOk, OnOk, option_copied};
-ghost use Rattle.source_names.specs.Classes as classes;
+ghost use Rattle.source_headers.specs.Classes as classes;
 ghost use Rattle.type_check.specs.Placing as placing;
 
 use crate::sight::Sight;
 use puya_base::Memory;
 use py_grammar::{Class, Item, Member};
-use source_names::{Base, Methods, base_of, signature_of};
+use source_headers::{Base, base_of, methods_of, signature_of};
+use source_names::Methods;
 use std::alloc::Global;
 
 /// The class of a line, where it is a contract.
@@ -59,7 +60,7 @@ pub(crate) fn enter_class(alloc: Global, sight: &mut Sight, class: &Class) -> Re
 {
     let number = next_function(sight)?;
     let members = class.members.as_slice();
-    sight.methods = Methods::of_members(alloc, number, members)?;
+    sight.methods = methods_of(alloc, number, members)?;
     add_signatures(alloc, sight, members)
 }
 

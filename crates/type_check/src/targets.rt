@@ -3,7 +3,7 @@
 
 ghost use Rattle.std.specs.Prelude.{◌≡◌, [], ◌∷◌, ◌++◌, map, None, Some, MatchOption, OnOk, option_copied};
 ghost use Rattle.puya_base.specs.declared.source.Place.{Place};
-ghost use Rattle.source_names.specs.Headers as headers;
+ghost use Rattle.source_headers.specs.Headers as headers;
 ghost use Rattle.source_names.specs.Source as source;
 ghost use Rattle.type_check.specs.Functions.{target_local};
 ghost use Rattle.type_check.specs.Lines as lines;
@@ -13,7 +13,8 @@ ghost use Rattle.type_check.specs.Targets as spec;
 use meaning_rules::{Local, Status};
 use puya_base::{List, Memory, Name, Refusal};
 use py_grammar::{Block, Branch, Exprs, Simple, Stmt, Tree, Word};
-use source_names::{ModuleNames, NameSet, clashes};
+use source_headers::clashes;
+use source_names::{ModuleNames, NameSet, is_myself};
 use std::alloc::Global;
 
 /// The name that a target is, if it is one; parentheses change nothing.
@@ -78,12 +79,6 @@ pub(crate) fn exprs_unpacked(exprs: &Exprs) -> Option<&[Tree]>
     ensures { MatchOption result (spec.unpacked (lines.exprs_of exprs.now) ≡ None) (λ ts. spec.unpacked (lines.exprs_of exprs.now) ≡ Some (source.exs_of (map source.tree_of ts.now))) }
 {
     unpacked_in(exprs.items.as_slice(), exprs.comma)
-}
-
-fn is_myself(name: &str) -> bool
-    ensures { result ≡ headers.is_myself name.now }
-{
-    name == "self"
 }
 
 /// Adds a variable that is first a target; P10 where it is named as a module name.

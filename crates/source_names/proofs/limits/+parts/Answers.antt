@@ -1,4 +1,4 @@
-use Rattle.std.proofs.Common.{◌<◌, arith}
+use Rattle.std.proofs.Common.{arith}
 use Rattle.source_names.proofs.Left.{too_large, next_part}
 use Rattle.source_names.proofs.limits.+parts.Goals as goal
 

@@ -1,4 +1,4 @@
-use Rattle.std.proofs.Common.{◌≡◌, ◌++◌, ap, ◌∙◌}
+use Rattle.std.proofs.Common.{◌++◌, ap, ◌∙◌}
 use Rattle.py_lexer.specs.Literals.{literal_value}
 use Rattle.source_names.proofs.Joining.{joined_next}
 use Rattle.source_names.proofs.literals.joined.Goals as goal

@@ -1,5 +1,5 @@
 use Rattle.std.proofs.Common.{◌≡◌, ◌++◌, map, drop}
-use Rattle.source_names.specs.Headers.{all_clashes}
+use Rattle.source_headers.specs.Headers.{all_clashes}
 use Rattle.type_check.specs.Functions.{target_local}
 use Rattle.type_check.specs.Lines.{branch_of, stmts_of}
 use Rattle.type_check.specs.Noting.{arm_targets, noted}

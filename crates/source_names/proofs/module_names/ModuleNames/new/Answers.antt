@@ -1,4 +1,4 @@
-use Rattle.std.proofs.Common.{◌≡◌, ap, ◌∙◌, arith, get_or, length}
+use Rattle.std.proofs.Common.{ap, ◌∙◌, arith, get_or, length}
 use Rattle.std.specs.HashMap.{get_by_text}
 use Rattle.source_names.specs.Lookups.{first_of, value_at}
 use Rattle.source_names.proofs.Finding.{one_line}

@@ -1,4 +1,4 @@
-use Rattle.std.proofs.Common.{◌≡◌, ◌∙◌}
+use Rattle.std.proofs.Common.{◌∙◌}
 use Rattle.std.specs.Prelude.{string_bytes}
 use Rattle.source_names.proofs.Seeing.{variable_is}
 use Rattle.source_names.proofs.name_set.NameSet.contains.Goals as goal

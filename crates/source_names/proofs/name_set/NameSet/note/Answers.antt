@@ -1,4 +1,4 @@
-use Rattle.std.proofs.Common.{◌≡◌, sym, ◌∙◌, ap}
+use Rattle.std.proofs.Common.{sym, ◌∙◌}
 use Rattle.std.specs.Prelude.{string_bytes}
 use Rattle.source_names.proofs.Seeing.{seen_is, with_old, inserted_is}
 use Rattle.source_names.proofs.name_set.NameSet.note.Goals as goal
