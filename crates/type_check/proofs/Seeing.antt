@@ -105,7 +105,7 @@ module _ (inside : Bool) where
       rw (e, g)
       (ap (λ z. w ∷ z) more
       ∙ ap (λ z. w ∷ (first_ones inside (w.name ∷ s) xs ++ z))
-        (first_alike (noted inside (w.name ∷ s) xs) (noted inside (with_name s w.name) xs) ys (noted_alike (w.name ∷ s) (with_name s w.name) xs (front_or_end s w.name))))
+      (first_alike (noted inside (w.name ∷ s) xs) (noted inside (with_name s w.name) xs) ys (noted_alike (w.name ∷ s) (with_name s w.name) xs (front_or_end s w.name))))
 
   pub first-append : (s : List (List ℕ)) (xs ys : List Word) → first_ones inside s (xs ++ ys) ≡ first_ones inside s xs ++ first_ones inside (noted inside s xs) ys
   first-append s [] ys = refl

@@ -51,11 +51,7 @@ fn with_function(all: Option<Funcs>, one: Option<TypedFunc>) -> Result<Option<Fu
 }
 
 /// The typed functions of a module, where each is known.
-fn typed_functions(
-    alloc: Global,
-    sight: &Sight,
-    items: &[Item],
-) -> Result<Option<Funcs>, Memory>
+fn typed_functions(alloc: Global, sight: &Sight, items: &[Item]) -> Result<Option<Funcs>, Memory>
     ensures { IfOk result (λ fs. fs ≡ spec.typed_functions (placing.in_module sight.now (spec.module_functions items.now))) }
 {
     let mut all = Some(List::new(alloc));
@@ -70,11 +66,7 @@ fn typed_functions(
     Ok(all)
 }
 
-fn typed_method(
-    alloc: Global,
-    sight: &mut Sight,
-    func: &Func,
-) -> Result<Option<TypedFunc>, Memory>
+fn typed_method(alloc: Global, sight: &mut Sight, func: &Func) -> Result<Option<TypedFunc>, Memory>
     ensures typed { IfOk result (λ f. f ≡ functions.typed_function (seen (placing.at_method sight.old func.now) []) true (headers.signature sight.old.names true func.now) func.now) }
     ensures sight { OnOk result (placing.forgetful sight.new ≡ placing.forgetful sight.old) }
 {
@@ -122,12 +114,7 @@ fn first_named(first: u32, members: &[Member], name: &str) -> Result<Option<u32>
     Ok(None)
 }
 
-fn contract_of(
-    alloc: Global,
-    first: u32,
-    class: &Class,
-    funcs: Funcs,
-) -> Result<Contract, Memory>
+fn contract_of(alloc: Global, first: u32, class: &Class, funcs: Funcs) -> Result<Contract, Memory>
     ensures { IfOk result (λ c. c ≡ placing.contract_of first class.now funcs) }
 {
     let members = class.members.as_slice();

@@ -296,7 +296,15 @@ fn check_branches(
 {
     let mut all = armed;
     for branch in branches {
-        all = check_arm(alloc, sight, gives, locals, all, &branch.test, &branch.block)?;
+        all = check_arm(
+            alloc,
+            sight,
+            gives,
+            locals,
+            all,
+            &branch.test,
+            &branch.block,
+        )?;
     }
     Ok(all)
 }
@@ -370,7 +378,9 @@ fn check_for(
         Some(number) => {
             let over = judge_over(alloc, into, sight, locals, tree)?;
             let at = word.place;
-            check_turns(alloc, into, sight, gives, locals, place, at, number, over, block)
+            check_turns(
+                alloc, into, sight, gives, locals, place, at, number, over, block,
+            )
         }
         None => {
             break_rule(into, Rule::P16, word.place)?;

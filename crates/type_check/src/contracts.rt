@@ -154,11 +154,7 @@ fn is_judged(found: &Found) -> Option<Refusal>
 }
 
 /// What is told of a module's names, and what its functions see.
-fn begin(
-    alloc: Global,
-    told: &mut List<Refusal>,
-    items: &[Item],
-) -> Result<Sight, Memory>
+fn begin(alloc: Global, told: &mut List<Refusal>, items: &[Item]) -> Result<Sight, Memory>
     ensures told { OnOk result (told.new ≡ told.old ++ placing.first_told items.now) }
     ensures sight { IfOk result (λ v. seen v [] ≡ spec.module_scope items.now) }
 {

@@ -68,7 +68,15 @@ fn first_locals(
     let mut seen = NameSet::new(alloc);
     let mut locals = Vec::new(alloc);
     add_params(alloc, &mut seen, &mut locals, signature.params.as_slice())?;
-    add_block(alloc, told, names, inside, &mut seen, &mut locals, &func.body)?;
+    add_block(
+        alloc,
+        told,
+        names,
+        inside,
+        &mut seen,
+        &mut locals,
+        &func.body,
+    )?;
     Locals::new(alloc, locals)
 }
 

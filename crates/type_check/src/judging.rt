@@ -167,7 +167,15 @@ pub(crate) fn judge(
         }
         Tree::Member(place, of, word) => {
             let meaning = judge(alloc, into, sight, locals, &freely(), of.get())?;
-            member_says_of(alloc, into, sight, *place, place_of(of.get()), word, meaning)
+            member_says_of(
+                alloc,
+                into,
+                sight,
+                *place,
+                place_of(of.get()),
+                word,
+                meaning,
+            )
         }
         Tree::Index(place, of, items, comma) => {
             let items = items.as_slice();
@@ -177,7 +185,15 @@ pub(crate) fn judge(
             judge_slice(alloc, into, sight, locals, *place, of.get(), start, stop)
         }
         Tree::Call(place, of, args, _) => {
-            judge_call(alloc, into, sight, locals, *place, of.get(), args.as_slice())
+            judge_call(
+                alloc,
+                into,
+                sight,
+                locals,
+                *place,
+                of.get(),
+                args.as_slice(),
+            )
         }
         Tree::Power(place, a, b) => {
             let power = BinaryOperator::Does(Operator::Power);
@@ -485,5 +501,14 @@ fn judge_choose(
     let meaning = judge(alloc, into, sight, locals, &freely(), test)?;
     let test = condition(alloc, into, place_of(test), meaning)?;
     let second = judge_operand(alloc, into, sight, locals, context, b)?;
-    choose_in(alloc, into, context, place, place_of(b), test, first, second)
+    choose_in(
+        alloc,
+        into,
+        context,
+        place,
+        place_of(b),
+        test,
+        first,
+        second,
+    )
 }

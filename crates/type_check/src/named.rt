@@ -20,11 +20,7 @@ use py_grammar::Word;
 use source_names::{Constant, Thing, member_of, module_name};
 use std::alloc::Global;
 
-fn constant_at(
-    alloc: Global,
-    place: Place,
-    constant: Option<&Constant>,
-) -> Result<Meaning, Memory>
+fn constant_at(alloc: Global, place: Place, constant: Option<&Constant>) -> Result<Meaning, Memory>
     ensures { IfOk result (λ m. m ≡ (spec.constant_says place (option_copied constant)).meaning) }
 {
     match constant {

@@ -24,7 +24,9 @@ use crate::unpacking::assign;
 use crate::updating::update;
 use crate::values::{exprs_value, judge_condition, judge_exprs};
 use awst::{StmtKind, Stmts};
-use meaning_rules::{Lit, Meaning, Operand, Typed, as_operand, break_rule, expr_in, fits_when, hoped};
+use meaning_rules::{
+    Lit, Meaning, Operand, Typed, as_operand, break_rule, expr_in, fits_when, hoped,
+};
 use path_rules::{Note, Notes};
 use puya_base::{Memory, Place, Rule};
 use py_grammar::{Exprs, Simple, Tree};
@@ -84,11 +86,7 @@ fn return_nothing(
     }
 }
 
-fn return_stmt(
-    alloc: Global,
-    place: Place,
-    typed: Option<Typed>,
-) -> Result<Option<Stmts>, Memory>
+fn return_stmt(alloc: Global, place: Place, typed: Option<Typed>) -> Result<Option<Stmts>, Memory>
     ensures { IfOk result (λ ss. ss ≡ spec.returned_typed place typed) }
 {
     match typed {
@@ -209,11 +207,7 @@ fn message_said(
     }
 }
 
-fn assert_stmt(
-    alloc: Global,
-    place: Place,
-    typed: Option<Typed>,
-) -> Result<Option<Stmts>, Memory>
+fn assert_stmt(alloc: Global, place: Place, typed: Option<Typed>) -> Result<Option<Stmts>, Memory>
     ensures { IfOk result (λ ss. ss ≡ spec.claimed place true typed) }
 {
     match typed {

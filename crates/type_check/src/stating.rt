@@ -11,10 +11,7 @@ use source_names::SourceType;
 use std::alloc::Global;
 
 /// The type alone, where it is known.
-pub(crate) fn type_in(
-    alloc: Global,
-    typed: &Option<Typed>,
-) -> Result<Option<SourceType>, Memory>
+pub(crate) fn type_in(alloc: Global, typed: &Option<Typed>) -> Result<Option<SourceType>, Memory>
     ensures { IfOk result (λ t. t ≡ spec.type_in typed.now) }
 {
     match typed {
@@ -31,11 +28,7 @@ pub(crate) fn nothing_known(alloc: Global, known: bool) -> Option<Stmts>
 }
 
 /// One statement.
-pub(crate) fn one_stmt(
-    alloc: Global,
-    place: Place,
-    kind: StmtKind,
-) -> Result<Option<Stmts>, Memory>
+pub(crate) fn one_stmt(alloc: Global, place: Place, kind: StmtKind) -> Result<Option<Stmts>, Memory>
     ensures { IfOk result (λ ss. ss ≡ Some (spec.stmt place kind)) }
 {
     let mut stmts = List::new(alloc);
@@ -53,10 +46,7 @@ pub(crate) fn one_target(alloc: Global, number: u32) -> Result<Targets, Memory>
 }
 
 /// Statements behind others, where all are known.
-pub(crate) fn joined(
-    first: Option<Stmts>,
-    behind: Option<Stmts>,
-) -> Result<Option<Stmts>, Memory>
+pub(crate) fn joined(first: Option<Stmts>, behind: Option<Stmts>) -> Result<Option<Stmts>, Memory>
     ensures { IfOk result (λ ss. ss ≡ joined first behind) }
 {
     match first {

@@ -249,15 +249,7 @@ pub(crate) fn add_block(
 {
     match block {
         Block::Line(line) => add_line(alloc, told, names, inside, seen, locals, line),
-        Block::Lines(stmts) => add_all(
-            alloc,
-            told,
-            names,
-            inside,
-            seen,
-            locals,
-            stmts.as_slice(),
-        ),
+        Block::Lines(stmts) => add_all(alloc, told, names, inside, seen, locals, stmts.as_slice()),
     }
 }
 

@@ -76,11 +76,7 @@ fn slot_hope(alloc: Global, locals: &Locals, number: Option<u32>) -> Result<Hope
     }
 }
 
-fn slot_hopes(
-    alloc: Global,
-    locals: &Locals,
-    numbers: &[Option<u32>],
-) -> Result<List<Hope>, Memory>
+fn slot_hopes(alloc: Global, locals: &Locals, numbers: &[Option<u32>]) -> Result<List<Hope>, Memory>
     ensures { IfOk result (λ hs. hs ≡ spec.slot_hopes locals.now numbers.now) }
 {
     let mut hopes = List::new(alloc);

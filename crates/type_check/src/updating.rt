@@ -141,7 +141,13 @@ fn updated_when(
     ensures { IfOk result (λ ss. ss ≡ updates.updated_when place number operator ty.now b) }
 {
     match b {
-        Some(b) => updated_by(alloc, place, number, operation_at(operator, scalar_of(ty)), b),
+        Some(b) => updated_by(
+            alloc,
+            place,
+            number,
+            operation_at(operator, scalar_of(ty)),
+            b,
+        ),
         None => Ok(None),
     }
 }
