@@ -1,4 +1,1 @@
-mod Rows
 mod Behind
-mod Seeing
-mod Variables

@@ -13,8 +13,8 @@ use Rattle.source_names.specs.declared.named.Entry.{Entry}
 use Rattle.source_headers.specs.Headers.{signature, divided}
 use Rattle.source_headers.specs.Modules.{entries, names_faults}
 use Rattle.source_headers.specs.Classes.{all_class_faults, base_of, class_signatures, classes, first_from, functions, has_myself, is_approval, is_clear, methods_from, no_contract}
-use Rattle.type_check.specs.declared.sight.Sight.{Sight}
-use Rattle.type_check.specs.Sights.{seen}
+use Rattle.expression_check.specs.declared.sight.Sight.{Sight}
+use Rattle.expression_check.specs.Sights.{seen}
 use Rattle.type_check.specs.Whole.{Placed, beyond, is_contract, typed}
 
 abbrev pub placed : Sight → Bool → Func → Placed

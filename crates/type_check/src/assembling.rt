@@ -5,13 +5,13 @@ ghost use Rattle.source_headers.specs.Classes as classes;
 ghost use Rattle.source_headers.specs.Headers as headers;
 ghost use Rattle.type_check.specs.Functions as functions;
 ghost use Rattle.type_check.specs.Placing as placing;
-ghost use Rattle.type_check.specs.Sights.{seen};
+ghost use Rattle.expression_check.specs.Sights.{seen};
 ghost use Rattle.type_check.specs.Whole as spec;
 
 use crate::functions::{Judged, judge_function};
 use crate::scoping::{contract_in, enter_class, leave_class, next_function};
-use crate::sight::Sight;
 use awst::{Contract, Func as TypedFunc, Funcs};
+use expression_check::Sight;
 use puya_base::{List, Memory, Name, SourceFault};
 use py_grammar::{Class, Func, Item, Member};
 use source_headers::{myself, signature_of};

@@ -7,7 +7,7 @@ ghost use Rattle.path_rules.specs.Rules.{IsFirst};
 ghost use Rattle.type_check.specs.Firsts.{IsFirstOf, first_in};
 ghost use Rattle.type_check.specs.Functions as functions;
 ghost use Rattle.type_check.specs.Placing as placing;
-ghost use Rattle.type_check.specs.Sights.{seen};
+ghost use Rattle.expression_check.specs.Sights.{seen};
 ghost use Rattle.type_check.specs.Whole as spec;
 ghost use Rattle.type_check.specs.Whole.{Checks, IsBrokenIn};
 
@@ -15,8 +15,8 @@ use crate::assembling::assembled;
 use crate::functions::{Judged, judge_function};
 use crate::order::{earlier, first_of};
 use crate::scoping::{contract_in, enter_class, leave_class};
-use crate::sight::Sight;
 use awst::Contract;
+use expression_check::Sight;
 use path_rules::broken;
 use puya_base::{List, Memory, Refusal, SourceFault};
 use py_grammar::{Class, Func, Item, Member, Module};

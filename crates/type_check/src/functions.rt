@@ -3,20 +3,18 @@
 ghost use Rattle.std.specs.Prelude.{◌≡◌, ◌++◌, [], map, length, take, drop, None, Some, IfOk, OnOk, if◌then◌else◌};
 ghost use Rattle.source_headers.specs.Headers as headers;
 ghost use Rattle.type_check.specs.Functions as spec;
-ghost use Rattle.type_check.specs.Noting.{with_names};
-ghost use Rattle.type_check.specs.Sights.{seen};
+ghost use Rattle.statement_check.specs.Noting.{with_names};
+ghost use Rattle.expression_check.specs.Sights.{seen};
 
-use crate::checking::check_block;
-use crate::locals::Locals;
-use crate::sight::Sight;
-use crate::targets::add_block;
-use crate::types::{is_nothing, known_copied, tree_type};
+use crate::types::{known_copied, tree_type};
 use awst::{Func as TypedFunc, Stmts, Ty, Tys, places};
+use expression_check::{Locals, Sight, is_nothing};
 use meaning_rules::{Local, Status};
 use path_rules::{Note, Notes};
 use puya_base::{List, Memory, Name, Place, Refusal, Rule, split_off};
 use py_grammar::Func;
 use source_names::{ModuleNames, NameSet, Parameter, Signature, SourceType};
+use statement_check::{add_block, check_block};
 use std::alloc::Global;
 
 /// How many places a function may have.

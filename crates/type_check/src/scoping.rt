@@ -4,7 +4,7 @@ ghost use Rattle.std.specs.Prelude.{◌≡◌, length, IfOk, OnOk, option_copied
 ghost use Rattle.source_headers.specs.Classes as classes;
 ghost use Rattle.type_check.specs.Placing as placing;
 
-use crate::sight::Sight;
+use expression_check::Sight;
 use puya_base::Memory;
 use py_grammar::{Class, Item, Member};
 use source_headers::{Base, base_of, methods_of, signature_of};

@@ -1,35 +1,14 @@
-//! Types of the source, and the types of typed trees for them.
+//! The types of typed trees for types of the source.
 
-ghost use Rattle.std.specs.Prelude.{◌≡◌, None, Some, map, IfOk, MatchOption};
+ghost use Rattle.std.specs.Prelude.{◌≡◌, map, IfOk};
 ghost use Rattle.source_names.specs.Types as spec;
 
 use algopy_library::Scalar;
 use awst::{Ty, Tys};
+use meaning_rules::copied;
 use puya_base::{List, Memory};
 use source_names::SourceType;
 use std::alloc::Global;
-
-/// Whether it is what a function without a result gives.
-pub(crate) fn is_nothing(ty: &SourceType) -> bool
-    ensures { result ≡ spec.is_nothing ty.now }
-{
-    match ty {
-        SourceType::Scalar(_) => false,
-        SourceType::Nothing => true,
-        SourceType::Tuple(_) => false,
-    }
-}
-
-/// The types of a tuple's parts.
-pub(crate) fn tuple_parts(ty: &SourceType) -> Option<&[SourceType]>
-    ensures { MatchOption result (spec.tuple_parts ty.now ≡ None) (λ ts. spec.tuple_parts ty.now ≡ Some ts.now) }
-{
-    match ty {
-        SourceType::Scalar(_) => None,
-        SourceType::Nothing => None,
-        SourceType::Tuple(parts) => Some(parts.as_slice()),
-    }
-}
 
 fn typed_scalar(scalar: Scalar) -> Ty
     ensures { result ≡ spec.typed_scalar scalar }
@@ -78,7 +57,7 @@ pub(crate) fn known_copied(
     ensures { IfOk result (λ t. t ≡ ty.now) }
 {
     match ty {
-        Some(ty) => Ok(Some(meaning_rules::copied(alloc, ty)?)),
+        Some(ty) => Ok(Some(copied(alloc, ty)?)),
         None => Ok(None),
     }
 }

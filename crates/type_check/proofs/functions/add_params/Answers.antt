@@ -1,6 +1,6 @@
 use Rattle.std.proofs.Common.{◌≡◌, [], ◌∷◌, ◌++◌, map, refl, ap, ◌∙◌}
 use Rattle.type_check.specs.Functions as spec
-use Rattle.type_check.specs.Noting.{with_names}
+use Rattle.statement_check.specs.Noting.{with_names}
 use Rattle.type_check.proofs.Behind.{told_behind, state_behind}
 use Rattle.type_check.proofs.functions.add_params.Goals as goal
 

@@ -1,6 +1,6 @@
 use Rattle.std.proofs.Common.{◌≡◌, ◌++◌, map, length}
 use Rattle.type_check.specs.Functions as spec
-use Rattle.type_check.specs.Noting.{with_names}
+use Rattle.statement_check.specs.Noting.{with_names}
 use Rattle.type_check.proofs.functions.add_params.Given as goal
 
 abbrev pub invariant-loop-rest : goal.invariant-loop-rest

@@ -1,6 +1,6 @@
 use Rattle.std.proofs.Common.{◌≡◌, length}
 use Rattle.type_check.specs.Functions as spec
-use Rattle.type_check.specs.Walking.{types_behind}
+use Rattle.expression_check.specs.Walking.{types_behind}
 use Rattle.type_check.proofs.functions.local_types.Given as goal
 
 abbrev pub invariant-loop-rest : goal.invariant-loop-rest
