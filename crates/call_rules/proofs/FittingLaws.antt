@@ -16,7 +16,7 @@ use Rattle.call_rules.specs.Fittings.{nothing_yet, with_expr, number_of, argumen
 
 -- ---- what a form admits
 
-admits-Number : (o : Option Scalar) → admits_scalar class.Number o ≡ is_scalar o scalar.UInt64
+pub admits-Number : (o : Option Scalar) → admits_scalar class.Number o ≡ is_scalar o scalar.UInt64
 admits-Number None = refl
 admits-Number (Some scalar.UInt64) = refl
 admits-Number (Some scalar.Bool) = refl
@@ -24,7 +24,7 @@ admits-Number (Some scalar.Bytes) = refl
 admits-Number (Some scalar.Text) = refl
 admits-Number (Some scalar.Account) = refl
 
-admits-Bytes : (o : Option Scalar) → admits_scalar class.Bytes o ≡ is_scalar o scalar.Bytes
+pub admits-Bytes : (o : Option Scalar) → admits_scalar class.Bytes o ≡ is_scalar o scalar.Bytes
 admits-Bytes None = refl
 admits-Bytes (Some scalar.UInt64) = refl
 admits-Bytes (Some scalar.Bool) = refl
@@ -32,7 +32,7 @@ admits-Bytes (Some scalar.Bytes) = refl
 admits-Bytes (Some scalar.Text) = refl
 admits-Bytes (Some scalar.Account) = refl
 
-admits-Either : (o : Option Scalar) → admits_scalar class.Either o ≡ (is_scalar o scalar.UInt64 || is_scalar o scalar.Bytes)
+pub admits-Either : (o : Option Scalar) → admits_scalar class.Either o ≡ (is_scalar o scalar.UInt64 || is_scalar o scalar.Bytes)
 admits-Either None = refl
 admits-Either (Some scalar.UInt64) = refl
 admits-Either (Some scalar.Bool) = refl
@@ -40,7 +40,7 @@ admits-Either (Some scalar.Bytes) = refl
 admits-Either (Some scalar.Text) = refl
 admits-Either (Some scalar.Account) = refl
 
-admits-Nothing : (o : Option Scalar) → admits_scalar class.Nothing o ≡ false
+pub admits-Nothing : (o : Option Scalar) → admits_scalar class.Nothing o ≡ false
 admits-Nothing o = refl
 
 pub ruleset admitted = (admits-Number, admits-Bytes, admits-Either, admits-Nothing)

@@ -1,6 +1,6 @@
 -- Bytes that pairs of hexadecimal digits write, one behind another.
-use Rattle.std.proofs.Common.{◌≡◌, ℕ, ◌<◌, ◌+◌, ◌*◌, length, get_or, List, [], ◌∷◌, ◌++◌, Option, Some, None, refl, sym, ap, ◌∙◌, append_assoc, arith}
-use Rattle.std.proofs.lemmas.List.{append-nil}
+use Rattle.std.proofs.Common.{◌≡◌, ℕ, ◌≤◌, ◌+◌, ◌-◌, ◌*◌, length, get_or, take, drop, List, [], ◌∷◌, ◌++◌, Option, Some, None, refl, sym, ap, ◌∙◌, append_assoc, arith}
+use Rattle.std.proofs.lemmas.List.{take_all}
 use Rattle.puya_base.specs.declared.source.Place.{Place}
 use Rattle.puya_base.specs.declared.source.Rule.TheVariants as rule
 use Rattle.py_lexer.specs.Numbers.{digit_value}
@@ -15,11 +15,6 @@ abbrev pub with_front : List ℕ → Option (List ℕ) → Option (List ℕ)
 with_front bs None = None
 with_front bs (Some cs) = Some (bs ++ cs)
 
-pairs-none : (x y : Option ℕ) (bs : Option (List ℕ)) → pair_of x y ≡ None → with_pair x y bs ≡ None
-pairs-none None y bs e = refl
-pairs-none (Some h) None bs e = refl
-pairs-none (Some h) (Some l) bs e = cc
-
 pairs-some : (x y : Option ℕ) (b : ℕ) (front : List ℕ) (bs : Option (List ℕ)) → pair_of x y ≡ Some b → with_front front (with_pair x y bs) ≡ with_front (front ++ b ∷ []) bs
 pairs-some None y b front bs e = cc
 pairs-some (Some h) None b front bs e = cc
@@ -28,22 +23,19 @@ pairs-some (Some h) (Some l) b front (Some bs) e =
     let same : h * 16 + l ≡ b = cc in
     ap (λ c. Some (front ++ c ∷ bs)) same ∙ ap Some (sym (append_assoc front (b ∷ []) bs))
 
-pub no_pair : (front : List ℕ) (rest : List ℕ) (h l : ℕ) (more : List ℕ) (whole : Option (List ℕ)) → rest ≡ h ∷ l ∷ more → pair h l ≡ None → with_front front (hex_bytes rest) ≡ whole → None ≡ whole
-no_pair front rest h l more whole e n w =
-    sym (ap (with_front front) (ap hex_bytes e ∙ pairs-none (digit_value h) (digit_value l) (hex_bytes more) n)) ∙ w
+two_and_behind : (xs : List ℕ) → 2 ≤ length xs → xs ≡ get_or xs 0 0 ∷ get_or xs 1 0 ∷ take (length xs - 2) (drop 2 xs)
+two_and_behind [] h = absurd (omega arith)
+two_and_behind (x ∷ []) h = absurd (omega arith)
+two_and_behind (x ∷ y ∷ xs) h = ap (λ z. x ∷ y ∷ z) (sym (take_all (length (x ∷ y ∷ xs) - 2) xs (omega arith)))
 
-pub next_pair : (front next rest : List ℕ) (h l b : ℕ) (more : List ℕ) (whole : Option (List ℕ)) → rest ≡ h ∷ l ∷ more → pair h l ≡ Some b → next ≡ front ++ b ∷ []
-    → with_front front (hex_bytes rest) ≡ whole → with_front next (hex_bytes more) ≡ whole
-next_pair front next rest h l b more whole e n f w =
-    ap (λ z. with_front z (hex_bytes more)) f ∙ sym (ap (λ r. with_front front (hex_bytes r)) e ∙ pairs-some (digit_value h) (digit_value l) b front (hex_bytes more) n) ∙ w
-
-pub all_pairs : (front rest : List ℕ) (whole : Option (List ℕ)) → rest ≡ [] → with_front front (hex_bytes rest) ≡ whole → Some front ≡ whole
-all_pairs front rest whole e w = sym (ap Some (append-nil front)) ∙ sym (ap (λ r. with_front front (hex_bytes r)) e) ∙ w
-
-pub half_pair : (front rest : List ℕ) (whole : Option (List ℕ)) → length rest < 2 → (length rest ≡ 0 → ⊥) → with_front front (hex_bytes rest) ≡ whole → None ≡ whole
-half_pair front [] whole h n w = absurd (n refl)
-half_pair front (b ∷ []) whole h n w = w
-half_pair front (b ∷ c ∷ bs) whole h n w = absurd (omega arith)
+-- a pair, and then what is behind it
+pub next_pair : (front next rest : List ℕ) (b : ℕ) (whole : Option (List ℕ)) → 2 ≤ length rest → pair (get_or rest 0 0) (get_or rest 1 0) ≡ Some b → next ≡ front ++ b ∷ []
+    → with_front front (hex_bytes rest) ≡ whole → with_front next (hex_bytes (take (length rest - 2) (drop 2 rest))) ≡ whole
+next_pair front next rest b whole low n f w =
+    let more = take (length rest - 2) (drop 2 rest) in
+    let h = digit_value (get_or rest 0 0) in
+    let l = digit_value (get_or rest 1 0) in
+    ap (λ z. with_front z (hex_bytes more)) f ∙ sym (ap (λ r. with_front front (hex_bytes r)) (two_and_behind rest low) ∙ pairs-some h l b front (hex_bytes more) n) ∙ w
 
 pub call_hex-one : (p : Place) (ks : List Known) (k : Known) → ks ≡ k ∷ [] → call_hex p ks ≡ hex_known p k
 call_hex-one p ks (value_at i t) e = ap (call_hex p) e

@@ -30,7 +30,8 @@ before_more : (ks : List Known) (a b s : Known) → (length ks ≡ 0 → ⊥) �
 before_more [] a b s n = absurd (n refl)
 before_more (k ∷ []) a b s n = refl
 before_more (k ∷ l ∷ []) a b s n = refl
-before_more (k ∷ l ∷ m ∷ ks) a b s n = refl
+before_more (k ∷ l ∷ m ∷ []) a b s n = refl
+before_more (k ∷ l ∷ m ∷ o ∷ ks) a b s n = refl
 
 pub ranged-more : (front ks : List Known) (a b s : Known) → front ≡ ks ++ a ∷ [] → (length ks ≡ 0 → ⊥) → by_number.Other ≡ ranged (front ++ b ∷ s ∷ [])
 ranged-more front ks a b s e n = before_more ks a b s n ∙ ap (λ f. ranged (f ++ b ∷ s ∷ [])) (sym e)

@@ -25,8 +25,8 @@ fn call_when(
     function: Option<&Signature>,
     known: Vec<Known>,
 ) -> Result<Meaning, Memory>
-    ensures told { OnOk result (into.new ≡ into.old ++ (callings.call_when place number (option_copied function) known.items).notes) }
-    ensures meaning { IfOk result (λ m. m ≡ (callings.call_when place number (option_copied function) known.items).meaning) }
+    ensures told { OnOk result (into.new ≡ into.old ++ (callings.call_when place number (option_copied function.entry) known.items).notes) }
+    ensures meaning { IfOk result (λ m. m ≡ (callings.call_when place number (option_copied function.entry) known.items).meaning) }
 {
     match function {
         Some(signature) => call_function(alloc, into, place, number, signature, known),

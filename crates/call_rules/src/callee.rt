@@ -112,7 +112,7 @@ fn range_hope(i: usize) -> Hope
 
 /// Behind the last parameter nothing is expected; the count is judged at the call.
 fn parameter_hope(alloc: Global, param: Option<&Parameter>) -> Result<Hope, Memory>
-    ensures { IfOk result (λ h. h ≡ spec.parameter_hope (option_copied param)) }
+    ensures { IfOk result (λ h. h ≡ spec.parameter_hope (option_copied param.entry)) }
 {
     match param {
         Some(param) => hoped(alloc, &param.ty),
@@ -121,7 +121,7 @@ fn parameter_hope(alloc: Global, param: Option<&Parameter>) -> Result<Hope, Memo
 }
 
 fn function_hope(alloc: Global, function: Option<&Signature>, i: usize) -> Result<Hope, Memory>
-    ensures { IfOk result (λ h. h ≡ callees.function_hope (option_copied function) i) }
+    ensures { IfOk result (λ h. h ≡ callees.function_hope (option_copied function.entry) i) }
 {
     match function {
         Some(function) => parameter_hope(alloc, function.params.get(i)),

@@ -53,8 +53,8 @@ fn fits_parameter(
     param: Option<&Parameter>,
     typed: Typed,
 ) -> Result<Option<Typed>, Memory>
-    ensures told { OnOk result (into.new ≡ into.old ++ (spec.fits_parameter (option_copied param) typed).notes) }
-    ensures typed { IfOk result (λ t. t ≡ (spec.fits_parameter (option_copied param) typed).typed) }
+    ensures told { OnOk result (into.new ≡ into.old ++ (spec.fits_parameter (option_copied param.entry) typed).notes) }
+    ensures typed { IfOk result (λ t. t ≡ (spec.fits_parameter (option_copied param.entry) typed).typed) }
 {
     match param {
         Some(param) => fits_param(into, &param.ty, typed),

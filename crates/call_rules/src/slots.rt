@@ -98,7 +98,7 @@ fn function_slot(
     key: Option<&Word>,
     place: Place,
 ) -> Slot
-    ensures { result ≡ spec.function_slot signature.now i used.now (option_copied key) place }
+    ensures { result ≡ spec.function_slot signature.now i used.now (option_copied key.entry) place }
 {
     match key {
         Some(key) => by_keyword(signature, used, key),
@@ -108,7 +108,7 @@ fn function_slot(
 
 /// The forms of the library take their arguments by position: P09 on a keyword.
 fn library_slot(i: usize, key: Option<&Word>) -> Slot
-    ensures { result ≡ spec.library_slot i (option_copied key) }
+    ensures { result ≡ spec.library_slot i (option_copied key.entry) }
 {
     match key {
         Some(key) => Slot::Wrong(Rule::P09, key.place),
@@ -123,7 +123,7 @@ fn slot_of(
     key: Option<&Word>,
     place: Place,
 ) -> Slot
-    ensures { result ≡ callees.slot_of (option_copied function) i used.now (option_copied key) place }
+    ensures { result ≡ callees.slot_of (option_copied function.entry) i used.now (option_copied key.entry) place }
 {
     match function {
         Some(signature) => function_slot(signature, i, used, key, place),
@@ -141,7 +141,7 @@ pub fn slot_for(
     key: Option<&Word>,
     place: Place,
 ) -> Slot
-    ensures { result ≡ spec.slot (callees.meant functions.now callee) i used.now (option_copied key) place }
+    ensures { result ≡ spec.slot (callees.meant functions.now callee) i used.now (option_copied key.entry) place }
 {
     match callee {
         Callee::Function(number) => slot_of(functions.get(number as usize), i, used, key, place),
