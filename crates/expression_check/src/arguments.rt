@@ -79,7 +79,7 @@ fn with_number(alloc: Global, numbers: List<usize>, slot: Slot) -> Result<List<u
 }
 
 fn is_keyword(key: Option<&Word>) -> bool
-    ensures { result ≡ spec.is_keyword (option_copied key) }
+    ensures { result ≡ spec.is_keyword (option_copied key.entry) }
 {
     match key {
         Some(_) => true,
@@ -89,7 +89,7 @@ fn is_keyword(key: Option<&Word>) -> bool
 
 /// What has its argument, once this one is there.
 fn use_of(alloc: Global, used: Used, slot: Slot, key: Option<&Word>) -> Result<Used, Memory>
-    ensures { IfOk result (λ u. u ≡ spec.use_of used slot (option_copied key)) }
+    ensures { IfOk result (λ u. u ≡ spec.use_of used slot (option_copied key.entry)) }
 {
     let Used { numbers, keyword } = used;
     let numbers = with_number(alloc, numbers, slot)?;
@@ -128,7 +128,7 @@ pub(crate) fn bind(
 ) -> Result<Bound, Memory>
     ensures complete { IfOk result (λ b. b.complete ≡ complete_with bound.complete argument) }
     ensures known { IfOk result (λ b. b.known.items ≡ known_with bound.known.items argument) }
-    ensures used { IfOk result (λ b. b.used ≡ spec.use_of bound.used slot (option_copied key)) }
+    ensures used { IfOk result (λ b. b.used ≡ spec.use_of bound.used slot (option_copied key.entry)) }
 {
     let Bound {
         complete,

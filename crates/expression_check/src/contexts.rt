@@ -29,7 +29,7 @@ pub fn context(copying: bool, hope: Hope) -> Context
 }
 
 fn wanted(alloc: Global, ty: Option<&SourceType>) -> Result<Hope, Memory>
-    ensures { IfOk result (λ h. h ≡ spec.wants (option_copied ty)) }
+    ensures { IfOk result (λ h. h ≡ spec.wants (option_copied ty.entry)) }
 {
     match ty {
         Some(ty) => Ok(Hope::Wants(copied(alloc, ty)?)),
@@ -67,7 +67,7 @@ fn same_hope(alloc: Global, hope: &Hope) -> Result<Hope, Memory>
 }
 
 fn hope_or_free(alloc: Global, hope: Option<&Hope>) -> Result<Hope, Memory>
-    ensures { IfOk result (λ h. h ≡ spec.hope_or_free (option_copied hope)) }
+    ensures { IfOk result (λ h. h ≡ spec.hope_or_free (option_copied hope.entry)) }
 {
     match hope {
         Some(hope) => same_hope(alloc, hope),

@@ -21,7 +21,7 @@ use source_names::{Constant, Thing, member_of, module_name};
 use std::alloc::Global;
 
 fn constant_at(alloc: Global, place: Place, constant: Option<&Constant>) -> Result<Meaning, Memory>
-    ensures { IfOk result (λ m. m ≡ (spec.constant_says place (option_copied constant)).meaning) }
+    ensures { IfOk result (λ m. m ≡ (spec.constant_says place (option_copied constant.entry)).meaning) }
 {
     match constant {
         Some(constant) => constant_says(alloc, place, constant),
@@ -95,8 +95,8 @@ pub fn read_at(
     number: u32,
     local: Option<&Local>,
 ) -> Result<Meaning, Memory>
-    ensures told { OnOk result (into.new ≡ into.old ++ (spec.read_status place number (option_copied local)).notes) }
-    ensures meaning { IfOk result (λ m. m ≡ (spec.read_status place number (option_copied local)).meaning) }
+    ensures told { OnOk result (into.new ≡ into.old ++ (spec.read_status place number (option_copied local.entry)).notes) }
+    ensures meaning { IfOk result (λ m. m ≡ (spec.read_status place number (option_copied local.entry)).meaning) }
 {
     match local {
         Some(local) => read_local(alloc, into, place, number, local),

@@ -1,3 +1,4 @@
 mod Rows
 mod Behind
 mod Seeing
+mod Blocks

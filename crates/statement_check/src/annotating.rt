@@ -71,7 +71,7 @@ fn differs_status(status: &Status, ty: &Option<SourceType>) -> bool
 
 /// Whether a variable has another type than this.
 pub(crate) fn differs(local: Option<&Local>, ty: &Option<SourceType>) -> bool
-    ensures { result ≡ spec.differs (variables.local_status (option_copied local)) ty.now }
+    ensures { result ≡ spec.differs (variables.local_status (option_copied local.entry)) ty.now }
 {
     match local {
         Some(local) => differs_status(&local.status, ty),

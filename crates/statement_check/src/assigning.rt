@@ -37,7 +37,7 @@ fn status_hope(alloc: Global, status: &Status) -> Result<Hope, Memory>
 
 /// What is hoped of a value for a variable.
 pub(crate) fn local_hope(alloc: Global, local: Option<&Local>) -> Result<Hope, Memory>
-    ensures { IfOk result (λ h. h ≡ spec.status_hope (variables.local_status (option_copied local))) }
+    ensures { IfOk result (λ h. h ≡ spec.status_hope (variables.local_status (option_copied local.entry))) }
 {
     match local {
         Some(local) => status_hope(alloc, &local.status),
@@ -65,8 +65,8 @@ fn fits_local(
     local: Option<&Local>,
     typed: Option<Typed>,
 ) -> Result<Option<Typed>, Memory>
-    ensures told { OnOk result (into.new ≡ into.old ++ (parting.fits_status (variables.local_status (option_copied local)) typed).notes) }
-    ensures typed { IfOk result (λ t. t ≡ (parting.fits_status (variables.local_status (option_copied local)) typed).typed) }
+    ensures told { OnOk result (into.new ≡ into.old ++ (parting.fits_status (variables.local_status (option_copied local.entry)) typed).notes) }
+    ensures typed { IfOk result (λ t. t ≡ (parting.fits_status (variables.local_status (option_copied local.entry)) typed).typed) }
 {
     match local {
         Some(local) => fits_status(into, &local.status, typed),
@@ -207,7 +207,7 @@ fn assign_bad(
 
 /// The variable that a target is, if it is one.
 pub(crate) fn variable_of(locals: &Locals, word: Option<&Word>) -> Option<u32>
-    ensures { (v : Sight) → result ≡ spec.variable_of (seen v locals.now) (option_copied word) }
+    ensures { (v : Sight) → result ≡ spec.variable_of (seen v locals.now) (option_copied word.entry) }
 {
     match word {
         Some(word) => locals.number_of(word.name.as_str()),

@@ -132,9 +132,9 @@ fn add_optional(
     locals: &mut Vec<Local>,
     word: Option<&Word>,
 ) -> Result<(), Memory>
-    ensures told { OnOk result (told.new ≡ told.old ++ headers.all_clashes names.now (spec.first_ones inside seen.old (spec.one_name (option_copied word)))) }
-    ensures seen { OnOk result (seen.new ≡ noted inside seen.old (spec.one_name (option_copied word))) }
-    ensures locals { OnOk result (locals.new.items ≡ locals.old.items ++ map target_local (spec.first_ones inside seen.old (spec.one_name (option_copied word)))) }
+    ensures told { OnOk result (told.new ≡ told.old ++ headers.all_clashes names.now (spec.first_ones inside seen.old (spec.one_name (option_copied word.entry)))) }
+    ensures seen { OnOk result (seen.new ≡ noted inside seen.old (spec.one_name (option_copied word.entry))) }
+    ensures locals { OnOk result (locals.new.items ≡ locals.old.items ++ map target_local (spec.first_ones inside seen.old (spec.one_name (option_copied word.entry)))) }
 {
     match word {
         Some(word) => add_target(alloc, told, names, inside, seen, locals, word),

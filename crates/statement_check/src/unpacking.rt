@@ -135,7 +135,7 @@ fn status_takes(status: &Status, ty: &SourceType) -> bool
 }
 
 fn local_takes(local: Option<&Local>, ty: &SourceType) -> bool
-    ensures { result ≡ spec.status_takes (variables.local_status (option_copied local)) ty.now }
+    ensures { result ≡ spec.status_takes (variables.local_status (option_copied local.entry)) ty.now }
 {
     match local {
         Some(local) => status_takes(&local.status, ty),
