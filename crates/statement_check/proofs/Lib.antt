@@ -2,3 +2,4 @@ mod Rows
 mod Behind
 mod Seeing
 mod Blocks
+mod Stepping
