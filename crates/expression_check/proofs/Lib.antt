@@ -1,3 +1,4 @@
 mod Behind
 mod Variables
 mod Trees
+mod Walks
