@@ -4,10 +4,8 @@ use Rattle.source_names.specs.declared.signature.Signature.{Signature}
 use Rattle.puya_base.specs.declared.source.Place.{Place}
 use Rattle.py_grammar.specs.declared.word.Word.{Word}
 use Rattle.call_rules.specs.declared.slots.Used.{Used}
-use Rattle.call_rules.specs.Calls.{hope_at, takes_literal, slot, function_callee, applied}
-use Rattle.call_rules.specs.declared.arguments.Known.{Known}
+use Rattle.call_rules.specs.Calls.{hope_at, takes_literal, slot, function_callee}
 use Rattle.call_rules.specs.Callees.{function_hope, slot_of}
-use Rattle.call_rules.specs.Callings.{call_when}
 
 pub hope_same : (n : ℕ) (o : Option Signature) (i : ℕ) → hope_at (function_callee n o) i ≡ function_hope o i
 hope_same n None i = refl
@@ -20,7 +18,3 @@ takes_same n (Some s) i = refl
 pub slot_same : (n : ℕ) (o : Option Signature) (i : ℕ) (u : Used) (k : Option Word) (p : Place) → slot (function_callee n o) i u k p ≡ slot_of o i u k p
 slot_same n None i u k p = refl
 slot_same n (Some s) i u k p = refl
-
-pub applied_same : (p : Place) (n : ℕ) (o : Option Signature) (ks : List Known) → applied p (function_callee n o) ks ≡ call_when p n o ks
-applied_same p n None ks = refl
-applied_same p n (Some s) ks = refl

@@ -4,3 +4,4 @@ pub mod Lasts
 pub mod RangeLaws
 pub mod HexLaws
 pub mod CallingLaws
+pub mod ApplyLaws

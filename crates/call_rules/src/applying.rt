@@ -35,7 +35,7 @@ fn call_when(
 }
 
 /// A call at `place`: P14 on what can't be called, P15 on another number of arguments, P14 on an argument of another type.
-#[tactic(auto, using(crate::proofs::CalleeLaws::applied_same))]
+#[tactic(auto, using(crate::proofs::ApplyLaws::applied_same))]
 pub fn applied(
     alloc: Global,
     into: &mut Notes,

@@ -50,6 +50,12 @@ fn slot_takes(callee: Callee, slot: Slot) -> bool
     }
 }
 
+fn stays_literal(_functions: &List<Signature>, callee: Callee, slot: Slot) -> bool
+    ensures { result ≡ spec.slot_takes (callees.meant _functions.now callee) slot }
+{
+    slot_takes(callee, slot)
+}
+
 /// What is hoped of an argument.
 pub fn slot_hope(
     alloc: Global,
@@ -101,7 +107,7 @@ fn given_literal(
     ensures told { let c = callees.meant functions.now callee in OnOk result (into.new ≡ into.old ++ (spec.given_literal (spec.slot_takes c slot) (spec.slot_hope c slot) (spec.slot_number slot) at lit).notes) }
     ensures known { let c = callees.meant functions.now callee in IfOk result (λ k. k ≡ (spec.given_literal (spec.slot_takes c slot) (spec.slot_hope c slot) (spec.slot_number slot) at lit).known) }
 {
-    if slot_takes(callee, slot) {
+    if stays_literal(functions, callee, slot) {
         Ok(Some(Known::Literal(slot_number(slot), at, lit)))
     } else {
         let hope = slot_hope(alloc, functions, callee, slot)?;

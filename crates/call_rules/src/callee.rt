@@ -8,7 +8,6 @@ ghost use Rattle.call_rules.specs.Calls as spec;
 use algopy_library::{Admits, Form, Member, Row, Scalar, admitted};
 use meaning_rules::{Hope, Meaning, hoped};
 use puya_base::{List, Memory, Place, Rule};
-use py_grammar::Word;
 use source_names::{Parameter, Signature, SourceType, Thing};
 use std::alloc::Global;
 

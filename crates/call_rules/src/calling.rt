@@ -51,6 +51,7 @@ fn called_when(
     }
 }
 
+#[tactic(auto, using(crate::proofs::CallingLaws::told_by))]
 fn with_params(
     alloc: Global,
     into: &mut Notes,
@@ -151,6 +152,7 @@ fn form_node(
     node(alloc, place, ty, ExprKind::Prim(form.prim, exprs))
 }
 
+#[tactic(auto, using(crate::proofs::CallingLaws::told_by))]
 fn with_form(
     alloc: Global,
     into: &mut Notes,
@@ -200,6 +202,7 @@ fn log_node(alloc: Global, place: Place, exprs: Option<Exprs>) -> Result<Meaning
     }
 }
 
+#[tactic(auto, using(crate::proofs::CallingLaws::told_by))]
 fn with_log(
     alloc: Global,
     into: &mut Notes,

@@ -8,9 +8,7 @@ ghost use Rattle.call_rules.specs.Calls as spec;
 use crate::arguments::Known;
 use algopy_library::{Admits, Form, Scalar, admitted, is_logged};
 use awst::{Exprs, Order};
-use meaning_rules::{
-    Typed, expr_in, fits_type, is_scalar, scalar_of, small, value_breaks,
-};
+use meaning_rules::{Typed, expr_in, fits_type, is_scalar, scalar_of, small, value_breaks};
 use path_rules::Notes;
 use puya_base::{List, Memory, Place, Rule};
 use source_names::{Parameter, Signature, SourceType};

@@ -30,11 +30,7 @@ pub fn breaks(into: &mut Notes, rule: Rule, place: Place) -> Result<Meaning, Mem
 }
 
 /// A broken rule in place of a value.
-pub fn value_breaks(
-    into: &mut Notes,
-    rule: Rule,
-    place: Place,
-) -> Result<Option<Typed>, Memory>
+pub fn value_breaks(into: &mut Notes, rule: Rule, place: Place) -> Result<Option<Typed>, Memory>
     ensures told { OnOk result (into.new ≡ into.old ++ (spec.value_breaks rule place).notes) }
     ensures typed { IfOk result (λ t. t ≡ (spec.value_breaks rule place).typed) }
 {
@@ -64,12 +60,7 @@ pub fn scalar_value(place: Place, scalar: Scalar, kind: ExprKind) -> Meaning
 }
 
 /// An expression that means a typed one.
-pub fn node(
-    alloc: Global,
-    place: Place,
-    ty: SourceType,
-    kind: ExprKind,
-) -> Result<Meaning, Memory>
+pub fn node(alloc: Global, place: Place, ty: SourceType, kind: ExprKind) -> Result<Meaning, Memory>
     ensures { IfOk result (λ m. m ≡ (spec.node place ty kind).meaning) }
 {
     let below = tree_type(alloc, &ty)?;
