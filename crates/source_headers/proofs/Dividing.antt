@@ -1,5 +1,5 @@
 -- The first parameter of a function of a class, and the others.
-use Rattle.std.proofs.Common.{◌≡◌, ℕ, ◌-◌, ◌≤◌, List, [], ◌∷◌, length, take, drop, get_or, Bool, true, false, refl, sym, ap, ◌∙◌, Option, Some, None}
+use Rattle.std.proofs.Common.{◌≡◌, ◌-◌, ◌≤◌, List, [], ◌∷◌, length, take, drop, get_or, Bool, true, false, refl, sym, ap, ◌∙◌, Some, None}
 use Rattle.py_grammar.specs.declared.module.Param.{Param}
 use Rattle.source_names.specs.Things.{is_myself}
 use Rattle.source_headers.specs.Headers.{Divided, divided, divided_when}

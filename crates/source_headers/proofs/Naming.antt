@@ -1,8 +1,8 @@
 -- The packages that words name.
-use Rattle.std.proofs.Common.{◌≡◌, ℕ, suc, ◌-◌, ◌≤◌, List, [], ◌∷◌, length, get_or, refl, sym, ap, ◌∙◌, arith}
+use Rattle.std.proofs.Common.{◌≡◌, ◌≤◌, List, [], ◌∷◌, length, get_or, refl, ap, ◌∙◌, arith}
 use Rattle.std.specs.Prelude.{bytes_eq, codes, if◌then◌else◌}
 use Rattle.py_grammar.specs.declared.word.Word.{Word}
-use Rattle.source_headers.specs.Modules.{Package, algopy_arc4, another, package_of, package_when}
+use Rattle.source_headers.specs.Modules.{algopy_arc4, another, package_of, package_when}
 
 pub no_word : (ws : List Word) → length ws ≡ 0 → another ≡ package_of ws
 no_word [] h = refl

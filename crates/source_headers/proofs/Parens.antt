@@ -1,5 +1,5 @@
 -- What stands in parentheses.
-use Rattle.std.proofs.Common.{◌≡◌, ℕ, ◌≤◌, List, [], ◌∷◌, length, get_or, map, Bool, true, false, refl, sym, ap, arith}
+use Rattle.std.proofs.Common.{◌≡◌, ◌≤◌, List, [], ◌∷◌, length, get_or, map, Bool, true, false, refl, sym, ap, arith}
 use Rattle.puya_base.specs.declared.source.Place.{Place}
 use Rattle.source_names.specs.declared.named.Entry.{Entry}
 use Rattle.py_grammar.specs.declared.expression.Tree.{Tree}

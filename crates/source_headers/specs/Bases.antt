@@ -33,7 +33,7 @@ abbrev pub has_named : (Func → Bool) → List Member → Bool
 has_named p [] = false
 has_named p (m ∷ ms) = if passes p m then true else has_named p ms
 
--- a program has no parameter but `self`, and gives a bool or a UInt64
+-- whether a program has a parameter but `self`, or gives neither a bool nor a UInt64
 abbrev pub wrong_program : Signature → Bool
 wrong_program s = if classes.is_empty s.params then classes.wrong_result s.result else true
 

@@ -1,5 +1,5 @@
 -- Functions as their first lines have them (Python reference 8.7): parameters, results, decorators; P10, P13 and P22 on these.
-use Rattle.std.specs.Prelude.{ℕ, Bool, true, false, ◌&&◌, if◌then◌else◌, List, [], ◌∷◌, ◌++◌, Option, Some, None}
+use Rattle.std.specs.Prelude.{ℕ, Bool, true, false, if◌then◌else◌, List, [], ◌∷◌, ◌++◌, Option, Some, None}
 use Rattle.puya_base.specs.declared.source.Place.{Place}
 use Rattle.puya_base.specs.declared.source.Rule.TheVariants as rule
 use Rattle.puya_base.specs.declared.source.Refusal.{Refusal}
@@ -10,7 +10,6 @@ use Rattle.py_grammar.specs.declared.module.Param.{Param}
 use Rattle.py_grammar.specs.declared.module.Func.{Func}
 use Rattle.algopy_library.specs.declared.row.Row.{Row}
 use Rattle.algopy_library.specs.declared.row.Row.TheVariants as row
-use Rattle.source_names.specs.declared.types.SourceType.{SourceType}
 use Rattle.source_names.specs.declared.named.Thing.{Thing}
 use Rattle.source_names.specs.declared.named.Thing.TheVariants as thing
 use Rattle.source_names.specs.declared.named.Entry.{Entry}

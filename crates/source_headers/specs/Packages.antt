@@ -1,12 +1,10 @@
 -- The packages that imports name, and what a line of a module defines, with the numbers that constants, functions and classes have behind it.
-use Rattle.std.specs.Prelude.{ℕ, suc, Bool, true, false, List, [], ◌∷◌, ◌++◌, if◌then◌else◌, Option, Some, None}
+use Rattle.std.specs.Prelude.{ℕ, suc, List, if◌then◌else◌, Option, Some, None}
 use Rattle.py_grammar.specs.declared.module.Item.{Item}
 use Rattle.py_grammar.specs.declared.module.Item.TheVariants as item
-use Rattle.source_names.specs.declared.named.Thing.TheVariants as thing
 use Rattle.source_names.specs.declared.constant.Constant.{Constant}
 use Rattle.source_names.specs.declared.constant.Constant.TheVariants as constant
 use Rattle.source_names.specs.Literals.{is_short}
-use Rattle.source_names.specs.declared.named.Entry.{Entry}
 use Rattle.source_headers.specs.declared.modules.Package.{Package}
 use Rattle.source_headers.specs.declared.modules.Package.TheVariants as kind
 use Rattle.source_headers.specs.Modules as modules

@@ -1,4 +1,4 @@
-use Rattle.std.proofs.Common.{◌≡◌, ◌++◌, [], length}
+use Rattle.std.proofs.Common.{◌≡◌, length}
 use Rattle.source_headers.specs.Classes as spec
 use Rattle.source_headers.proofs.classes.all_other.Given as goal
 

@@ -1,4 +1,4 @@
-use Rattle.std.proofs.Common.{◌≡◌, ◌∷◌, [], ◌++◌, refl, ap, ◌∙◌}
+use Rattle.std.proofs.Common.{◌∷◌, [], ◌++◌, refl, ap, ◌∙◌}
 use Rattle.source_headers.specs.Headers.{annotated, all_annotated, parameter, parameters}
 use Rattle.source_headers.proofs.Behind.{told_behind}
 use Rattle.source_headers.proofs.headers.parameters.Goals as goal

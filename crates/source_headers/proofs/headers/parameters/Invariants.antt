@@ -1,4 +1,4 @@
-use Rattle.std.proofs.Common.{◌≡◌, ◌++◌, [], length}
+use Rattle.std.proofs.Common.{◌≡◌, ◌++◌, length}
 use Rattle.source_headers.specs.Headers as spec
 use Rattle.source_headers.proofs.headers.parameters.Given as goal
 

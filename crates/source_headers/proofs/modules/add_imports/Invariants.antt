@@ -1,4 +1,4 @@
-use Rattle.std.proofs.Common.{◌≡◌, ◌++◌, [], length}
+use Rattle.std.proofs.Common.{◌≡◌, ◌++◌, length}
 use Rattle.source_headers.specs.Modules as spec
 use Rattle.source_headers.specs.Packages.{meant}
 use Rattle.source_headers.proofs.modules.add_imports.Given as goal

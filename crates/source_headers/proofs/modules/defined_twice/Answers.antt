@@ -1,4 +1,4 @@
-use Rattle.std.proofs.Common.{◌≡◌, ◌++◌, refl, ap, ◌∙◌}
+use Rattle.std.proofs.Common.{◌++◌, refl, ap, ◌∙◌}
 use Rattle.source_headers.specs.Modules.{entry_words}
 use Rattle.source_headers.specs.Headers.{again}
 use Rattle.source_names.specs.Lookups.{with_name}
