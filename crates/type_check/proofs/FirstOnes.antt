@@ -105,22 +105,24 @@ through_by a ps qs None None h k = λ r j. elim j [
   | inl e ↦ h r (inl e)
   | inr s ↦ elim (some_either ps qs r s) [ inl d ↦ h r (inr d) | inr d ↦ k r (inr d) ]
 ]
-through_by a ps qs None (Some c) h k =
-    (elim k.0 [ inl e ↦ (let f : None ≡ Some c = e in cc) | inr d ↦ inr (some_right ps qs c d) ],
-    λ r j. elim j [
-      | inl e ↦ absurd (h r (inl e))
-      | inr s ↦ elim (some_either ps qs r s) [ inl d ↦ absurd (h r (inr d)) | inr d ↦ k.1 r (inr d) ]
-    ])
+through_by a ps qs None (Some c) h k = (
+  elim k.0 [ inl e ↦ (let f : None ≡ Some c = e in cc) | inr d ↦ inr (some_right ps qs c d) ],
+  λ r j. elim j [
+    | inl e ↦ absurd (h r (inl e))
+    | inr s ↦ elim (some_either ps qs r s) [ inl d ↦ absurd (h r (inr d)) | inr d ↦ k.1 r (inr d) ]
+  ],
+)
 through_by a ps qs (Some b) None h k = absurd (k b (inl refl))
-through_by a ps qs (Some b) (Some c) h k =
-    (elim k.0 [
-      | inl e ↦ (let f : b ≡ c = cc in subst (λ z. (a ≡ Some z) ⊎ BreaksSome (ps ++ qs) z) f (elim h.0 [ inl g ↦ inl g | inr d ↦ inr (some_left ps qs b d) ]))
-      | inr d ↦ inr (some_right ps qs c d)
-    ],
-    λ r j. elim j [
-      | inl e ↦ refusal_test.through c b r (k.1 b (inl refl)) (h.1 r (inl e))
-      | inr s ↦ elim (some_either ps qs r s) [ inl d ↦ refusal_test.through c b r (k.1 b (inl refl)) (h.1 r (inr d)) | inr d ↦ k.1 r (inr d) ]
-    ])
+through_by a ps qs (Some b) (Some c) h k = (
+  elim k.0 [
+    | inl e ↦ (let f : b ≡ c = cc in subst (λ z. (a ≡ Some z) ⊎ BreaksSome (ps ++ qs) z) f (elim h.0 [ inl g ↦ inl g | inr d ↦ inr (some_left ps qs b d) ]))
+    | inr d ↦ inr (some_right ps qs c d)
+  ],
+  λ r j. elim j [
+    | inl e ↦ refusal_test.through c b r (k.1 b (inl refl)) (h.1 r (inl e))
+    | inr s ↦ elim (some_either ps qs r s) [ inl d ↦ refusal_test.through c b r (k.1 b (inl refl)) (h.1 r (inr d)) | inr d ↦ k.1 r (inr d) ]
+  ],
+)
 
 pub first_of_more : (a b c : Option Refusal) (ps qs : List Placed) → IsFirstOf a ps b → IsFirstOf b qs c → IsFirstOf a (ps ++ qs) c
 first_of_more a b c ps qs h k = through_by a ps qs b c h k
