@@ -50,8 +50,11 @@ use Rattle.meaning_rules.specs.declared.scope.Local.{Local}
 use Rattle.meaning_rules.specs.declared.scope.Method.{Method}
 use Rattle.meaning_rules.specs.declared.scope.Status.{Status}
 use Rattle.meaning_rules.specs.declared.scope.Status.TheVariants as status
-use Rattle.meaning_rules.specs.Meanings.{Judged, Valued, Operand, a_value, a_literal, missing, Operated, broken, broken_all, unknown, breaks, says, after, a_node, node, no_value, value_breaks, a_typed, literal, lit_node, lit_type, operand_of, settled, value, fits_type, required, hoped, context, freely, part_hope, whole_hope, condition}
-use Rattle.meaning_rules.specs.Calls as calls
+use Rattle.meaning_rules.specs.declared.operand.Operand.{Operand}
+use Rattle.meaning_rules.specs.declared.operand.Operand.TheVariants.{Value as a_value, Literal as a_literal, Missing as missing}
+use Rattle.call_rules.specs.declared.slots.Used.{Used}
+use Rattle.meaning_rules.specs.Meanings.{Judged, Valued, Operated, broken, broken_all, unknown, breaks, says, after, a_node, node, no_value, value_breaks, a_typed, literal, lit_node, lit_type, operand_of, settled, value, fits_type, required, hoped, context, freely, part_hope, whole_hope, condition}
+use Rattle.call_rules.specs.Calls as calls
 use Rattle.meaning_rules.specs.Operations.{short_literal, judge_name, judge_member, judge_binary, judge_unary, judge_choose, no_parts, and_part, judge_tuple, no_items, and_item, judge_display, index_hope, based, judge_index, is_bytes, end_of, absent_end, judge_slice, Parts, Items, Ended}
 
 -- ---- expressions
@@ -105,7 +108,7 @@ abbrev mutual
   end s b h absent = absent_end
   end s b h (present e) = end_of b (operand_of (place_of e) (judge s (context false h) e))
 
-  pub arguments : Scope → calls.Callee → ℕ → calls.Used → Args → calls.Bound
+  pub arguments : Scope → calls.Callee → ℕ → Used → Args → calls.Bound
   arguments s c i u no_args = calls.no_arguments
   arguments s c i u (an_arg k e as_) =
       let t = calls.slot c i u k (place_of e) in

@@ -41,7 +41,9 @@ use Rattle.meaning_rules.specs.declared.scope.Scope.{Scope}
 use Rattle.meaning_rules.specs.declared.scope.Local.{Local}
 use Rattle.meaning_rules.specs.declared.scope.Status.{Status}
 use Rattle.meaning_rules.specs.declared.scope.Status.TheVariants as status
-use Rattle.meaning_rules.specs.Meanings.{Judged, Valued, Operand, a_value, a_literal, missing, broken, broken_all, no_value, value_breaks, a_typed, literal, operand_of, value, required, fits_type, hoped, context, freely, condition}
+use Rattle.meaning_rules.specs.declared.operand.Operand.{Operand}
+use Rattle.meaning_rules.specs.declared.operand.Operand.TheVariants.{Value as a_value, Literal as a_literal, Missing as missing}
+use Rattle.meaning_rules.specs.Meanings.{Judged, Valued, broken, broken_all, no_value, value_breaks, a_typed, literal, operand_of, value, required, fits_type, hoped, context, freely, condition}
 use Rattle.meaning_rules.specs.Operations.{local_of, read_status, has_between, operation_at, is_missing}
 use Rattle.type_check.specs.Expressions.{judge}
 use Rattle.type_check.specs.Lines.{Line, skip, leave, again, give, claim, delete, alone, assign, augment, annotate, St, line, if_else, while_do, for_in, Sts, no_stmts, a_stmt, Branches, otherwise, a_branch}

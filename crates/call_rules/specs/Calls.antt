@@ -39,7 +39,14 @@ use Rattle.meaning_rules.specs.declared.meaning.Range.{Range}
 use Rattle.meaning_rules.specs.declared.meaning.Meaning.{Meaning}
 use Rattle.meaning_rules.specs.declared.meaning.Meaning.TheVariants as meaning
 use Rattle.meaning_rules.specs.declared.scope.Scope.{Scope}
-use Rattle.meaning_rules.specs.Meanings.{Judged, Valued, Operand, a_value, a_literal, missing, Operated, broken, unknown, breaks, says, after, a_node, node, no_value, value_breaks, a_typed, literal, lit_node, operand_of, settled, fits_type, hoped, context, truth_of}
+use Rattle.meaning_rules.specs.declared.operand.Operand.{Operand}
+use Rattle.meaning_rules.specs.declared.operand.Operand.TheVariants.{Value as a_value, Literal as a_literal, Missing as missing}
+use Rattle.call_rules.specs.declared.callee.Slot.{Slot}
+use Rattle.call_rules.specs.declared.callee.Slot.TheVariants.{Wrong as wrong, At as at, Beyond as beyond}
+use Rattle.call_rules.specs.declared.slots.Used.{Used}
+use Rattle.call_rules.specs.declared.arguments.Known.{Known}
+use Rattle.call_rules.specs.declared.arguments.Known.TheVariants.{Value as value_at, Literal as literal_at}
+use Rattle.meaning_rules.specs.Meanings.{Judged, Valued, Operated, broken, unknown, breaks, says, after, a_node, node, no_value, value_breaks, a_typed, literal, lit_node, operand_of, settled, fits_type, hoped, context, truth_of}
 
 -- ---- what is called
 
@@ -91,13 +98,6 @@ callee fs meaning.Unknown = unknown_callee
 
 -- ---- which parameter an argument is for
 
--- the number of its parameter, if it has one; `wrong` where it breaks a rule
-pub data Slot : Type 0 where
-  wrong : Rule → Place → Slot
-  at : ℕ → Slot
-  -- by position, behind the last parameter; the count is judged at the call
-  beyond : Slot
-
 abbrev pub is_used : ℕ → List ℕ → Bool
 is_used n [] = false
 is_used n (m ∷ ms) = if n == m then true else is_used n ms
@@ -114,11 +114,6 @@ keyed p used (Some j) = if is_used j used then wrong rule.P15 p else at j
 abbrev pub placed : ℕ → Option Parameter → Slot
 placed i None = beyond
 placed i (Some p) = at i
-
--- the numbers of the parameters that have an argument, and whether one was given by a keyword
-pub record Used : Type 0 where
-  pub numbers : List ℕ
-  pub keyword : Bool
 
 abbrev pub nothing_used : Used
 nothing_used = record { numbers = []; keyword = false }
@@ -189,11 +184,6 @@ slot_takes c (at i) = takes_literal c i
 slot_takes c beyond = true
 
 -- ---- arguments
-
--- an argument that is known: where it stands, the number of its parameter, and what it is
-pub data Known : Type 0 where
-  value_at : ℕ → Typed → Known
-  literal_at : ℕ → Place → Lit → Known
 
 abbrev pub slot_number : Slot → ℕ
 slot_number (wrong r p) = 0
