@@ -1,0 +1,12 @@
+pub mod Stopping
+pub mod Depths
+pub mod Looped
+pub mod Ticking
+pub mod Flowing
+pub mod Opening
+pub mod Picking
+pub mod Turning
+pub mod Parts
+pub mod Placing
+pub mod OpenNeeds
+pub mod Functions
