@@ -1,5 +1,5 @@
 -- Functions as their first lines have them (Python reference 8.7): parameters, results, decorators; P10, P13 and P22 on these.
-use Rattle.std.specs.Prelude.{ℕ, Bool, true, false, ◌&&◌, if◌then◌else◌, List, [], ◌∷◌, ◌++◌, bytes_eq, codes, Option, Some, None}
+use Rattle.std.specs.Prelude.{ℕ, Bool, true, false, if◌then◌else◌, List, [], ◌∷◌, ◌++◌, Option, Some, None}
 use Rattle.puya_base.specs.declared.source.Place.{Place}
 use Rattle.puya_base.specs.declared.source.Rule.TheVariants as rule
 use Rattle.puya_base.specs.declared.source.Refusal.{Refusal}
@@ -10,7 +10,6 @@ use Rattle.py_grammar.specs.declared.module.Param.{Param}
 use Rattle.py_grammar.specs.declared.module.Func.{Func}
 use Rattle.algopy_library.specs.declared.row.Row.{Row}
 use Rattle.algopy_library.specs.declared.row.Row.TheVariants as row
-use Rattle.source_names.specs.declared.types.SourceType.{SourceType}
 use Rattle.source_names.specs.declared.named.Thing.{Thing}
 use Rattle.source_names.specs.declared.named.Thing.TheVariants as thing
 use Rattle.source_names.specs.declared.named.Entry.{Entry}
@@ -18,11 +17,9 @@ use Rattle.source_names.specs.declared.signature.Parameter.{Parameter}
 use Rattle.source_names.specs.declared.signature.Signature.{Signature}
 use Rattle.source_names.specs.Source.{Ex, name, number, text, bytes, flag, paren, tuple, display, member, index, slice, call, unary, binary, choose, tree_of, place_of}
 use Rattle.source_names.specs.Faults.{breaks}
-use Rattle.source_names.specs.Things.{Found, stands_for, behind, module_name, member_of, entry_named}
+use Rattle.source_names.specs.Things.{Found, stands_for, behind, module_name, member_of, entry_named, is_myself}
+use Rattle.source_names.specs.Lookups.{is_seen}
 use Rattle.source_names.specs.Annotations.{Written, written, of_value}
-
-abbrev pub is_myself : List ℕ → Bool
-is_myself n = bytes_eq n (codes "self")
 
 -- ---- parameters
 
@@ -47,9 +44,9 @@ abbrev pub myself_annotated : List Entry → Option TypeTree → List Refusal
 myself_annotated es None = []
 myself_annotated es (Some t) = (of_value (written es [] t)).faults
 
-abbrev pub is_seen : List ℕ → List (List ℕ) → Bool
-is_seen n [] = false
-is_seen n (m ∷ ms) = if bytes_eq m n then true else is_seen n ms
+-- P10 on a name that was seen before
+unfoldable pub again : List (List ℕ) → List ℕ → Place → List Refusal
+again seen n p = if is_seen n seen then breaks rule.P10 p else []
 
 -- P10 on each name that stands before
 abbrev pub twice : List (List ℕ) → List Word → List Refusal

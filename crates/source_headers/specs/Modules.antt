@@ -1,5 +1,5 @@
 -- What a module defines (Python reference 7.11, 9.2): imports, constants, functions, classes; P08 to P11, and P14 on a constant's literal.
-use Rattle.std.specs.Prelude.{ℕ, suc, ◌+◌, Bool, true, false, if◌then◌else◌, List, [], ◌∷◌, ◌++◌, bytes_eq, codes, Option, Some, None}
+use Rattle.std.specs.Prelude.{ℕ, suc, Bool, true, false, if◌then◌else◌, List, [], ◌∷◌, ◌++◌, bytes_eq, codes, Option, Some, None}
 use Rattle.puya_base.specs.declared.source.Place.{Place}
 use Rattle.puya_base.specs.declared.source.Rule.TheVariants as rule
 use Rattle.puya_base.specs.declared.source.Refusal.{Refusal}
@@ -20,7 +20,7 @@ use Rattle.source_names.specs.declared.named.Entry.{Entry}
 use Rattle.source_names.specs.declared.signature.Signature.{Signature}
 use Rattle.source_names.specs.Literals.{number_of, joined, is_short}
 use Rattle.source_names.specs.Faults.{breaks}
-use Rattle.source_names.specs.Headers.{twice, signature, signature_faults, decorators}
+use Rattle.source_headers.specs.Headers.{twice, signature, signature_faults, decorators}
 
 -- ---- imports
 

@@ -1,5 +1,5 @@
 -- Contracts: their bases, their members, their two programs (Algorand Python guide, "Contracts"); P08 to P10, P12 and P22 on these.
-use Rattle.std.specs.Prelude.{ℕ, suc, ◌+◌, Bool, true, false, ◌||◌, ◌&&◌, if◌then◌else◌, List, [], ◌∷◌, ◌++◌, length, bytes_eq, codes, Option, Some, None}
+use Rattle.std.specs.Prelude.{ℕ, suc, Bool, true, false, ◌||◌, ◌&&◌, if◌then◌else◌, List, [], ◌∷◌, ◌++◌, bytes_eq, codes, Option, Some, None}
 use Rattle.puya_base.specs.declared.source.Place.{Place}
 use Rattle.puya_base.specs.declared.source.Rule.TheVariants as rule
 use Rattle.puya_base.specs.declared.source.Refusal.{Refusal}
@@ -21,8 +21,8 @@ use Rattle.source_names.specs.declared.named.Entry.{Entry}
 use Rattle.source_names.specs.declared.signature.Signature.{Signature}
 use Rattle.source_names.specs.Types.{scalar_of}
 use Rattle.source_names.specs.Faults.{breaks}
-use Rattle.source_names.specs.Things.{Found, dotted}
-use Rattle.source_names.specs.Headers.{divided, Divided, twice, signature, signature_faults, decorators, all_unwanted}
+use Rattle.source_names.specs.Things.{dotted}
+use Rattle.source_headers.specs.Headers.{divided, Divided, twice, signature, signature_faults, decorators, all_unwanted}
 
 -- what a class is by its base
 pub data Base : Type 0 where
