@@ -1,0 +1,8 @@
+mod Finding
+mod Seeing
+mod Behind
+mod Members
+mod Left
+mod Joining
+mod Writing
+mod Parens

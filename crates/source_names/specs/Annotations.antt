@@ -1,14 +1,11 @@
 -- Annotations: the types that they write (Python reference 8.7, 'annotation'), P08 and P09 on their names, P13 where they write none.
-use Rattle.std.specs.Prelude.{ℕ, Bool, true, false, if◌then◌else◌, List, [], ◌∷◌, ◌++◌, map, Option, Some, None}
+use Rattle.std.specs.Prelude.{ℕ, Bool, true, false, if◌then◌else◌, List, [], ◌∷◌, ◌++◌, Option, Some, None}
 use Rattle.puya_base.specs.declared.source.Place.{Place}
 use Rattle.puya_base.specs.declared.source.Rule.TheVariants as rule
 use Rattle.puya_base.specs.declared.source.Refusal.{Refusal}
-use Rattle.py_grammar.specs.declared.word.Word.{Word}
 use Rattle.py_grammar.specs.declared.type_tree.TypeTree.{TypeTree}
-use Rattle.py_grammar.specs.declared.type_tree.TypeArg.{TypeArg}
 use Rattle.py_grammar.specs.declared.type_tree.TypeArg.TheOpen.{TypeTree-F, TypeArg-F}
 use Rattle.py_grammar.specs.declared.type_tree.TypeArg.TheFolds.{fold-TypeTree}
-use Rattle.algopy_library.specs.declared.scalar.Scalar.{Scalar}
 use Rattle.algopy_library.specs.declared.scalar.Scalar.TheVariants as scalar
 use Rattle.algopy_library.specs.declared.row.Row.{Row}
 use Rattle.algopy_library.specs.declared.row.Row.TheVariants as row

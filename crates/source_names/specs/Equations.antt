@@ -1,9 +1,9 @@
 -- The equations of the folds over source types, one for each variant.
-use Rattle.std.proofs.Common.{◌≡◌, ◌∙◌, List, map, Option, Some, None, ap, sym}
+use Rattle.std.proofs.Common.{◌≡◌, ◌∙◌, List, map, Some, None, ap, sym}
 use Rattle.algopy_library.specs.declared.scalar.Scalar.{Scalar}
 use Rattle.awst.specs.declared.ty.Ty.{Ty}
 use Rattle.awst.specs.declared.ty.Ty.TheVariants as awst
-use Rattle.source_names.specs.declared.types.SourceType.{SourceType, roll-SourceType}
+use Rattle.source_names.specs.declared.types.SourceType.{SourceType}
 use Rattle.source_names.specs.declared.types.SourceType.TheViews.{out-roll-SourceType}
 use Rattle.source_names.specs.declared.types.SourceType.TheVariants.{Scalar as OneScalar, Nothing, Tuple, rolls-Scalar, rolls-Nothing, rolls-Tuple}
 use Rattle.source_names.specs.declared.types.SourceType.TheOpen.{SourceType-F}

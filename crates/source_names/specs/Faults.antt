@@ -1,5 +1,5 @@
 -- Broken rules.
-use Rattle.std.specs.Prelude.{List, [], ◌∷◌, ◌++◌}
+use Rattle.std.specs.Prelude.{List, [], ◌∷◌}
 use Rattle.puya_base.specs.declared.source.Place.{Place}
 use Rattle.puya_base.specs.declared.source.Rule.{Rule}
 use Rattle.puya_base.specs.declared.source.Refusal.{Refusal}

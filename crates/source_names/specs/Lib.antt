@@ -4,7 +4,7 @@ pub mod Faults
 pub mod Source
 pub mod Things
 pub mod Annotations
-pub mod Headers
-pub mod Modules
-pub mod Classes
+pub mod Lookups
+pub mod Limits
+pub mod Parts
 pub mod Equations

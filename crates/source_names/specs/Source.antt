@@ -1,6 +1,6 @@
 -- Expressions as plain data. Operators between two values are one form; what stands in brackets or in a statement is one expression, a tuple where
 -- there are several or a comma stands behind it (Python reference 6.15).
-use Rattle.std.specs.Prelude.{ℕ, Bool, true, false, List, [], ◌∷◌, map, Option, Some, None}
+use Rattle.std.specs.Prelude.{Bool, false, List, [], ◌∷◌, map, Option, Some, None}
 use Rattle.puya_base.specs.declared.source.Place.{Place}
 use Rattle.py_grammar.specs.declared.word.Word.{Word}
 use Rattle.py_grammar.specs.declared.word.Literal.{Literal}

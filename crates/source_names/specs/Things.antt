@@ -1,11 +1,10 @@
 -- What names and names with points between stand for. A rule is judged on a name only where the name before the point is known.
-use Rattle.std.specs.Prelude.{ℕ, ◌==◌, Bool, true, false, if◌then◌else◌, List, [], ◌∷◌, ◌++◌, bytes_eq, Option, Some, None}
+use Rattle.std.specs.Prelude.{ℕ, Bool, true, false, if◌then◌else◌, List, [], ◌∷◌, ◌++◌, bytes_eq, codes, Option, Some, None}
 use Rattle.puya_base.specs.declared.source.Place.{Place}
 use Rattle.puya_base.specs.declared.source.Rule.TheVariants as rule
 use Rattle.puya_base.specs.declared.source.Refusal.{Refusal}
 use Rattle.py_grammar.specs.declared.word.Word.{Word}
 use Rattle.algopy_library.specs.declared.row.Row.{Row}
-use Rattle.algopy_library.specs.declared.row.Row.TheVariants as row
 use Rattle.algopy_library.specs.declared.member.Member.{Member}
 use Rattle.algopy_library.specs.declared.member.Member.TheVariants as member
 use Rattle.algopy_library.specs.Packages.{built_in}
@@ -14,6 +13,10 @@ use Rattle.source_names.specs.declared.named.Thing.{Thing}
 use Rattle.source_names.specs.declared.named.Thing.TheVariants as thing
 use Rattle.source_names.specs.declared.named.Entry.{Entry}
 use Rattle.source_names.specs.Faults.{breaks}
+
+-- the name of the contract itself in the functions of its class
+abbrev pub is_myself : List ℕ → Bool
+is_myself n = bytes_eq n (codes "self")
 
 -- what is said of a name: the rules that it breaks, and what it stands for; `Unknown` where it breaks one
 pub record Found : Type 0 where

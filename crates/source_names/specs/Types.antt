@@ -1,5 +1,5 @@
 -- Source types as plain data, and when two are one. A type is the same where it is written alike.
-use Rattle.std.specs.Prelude.{ℕ, suc, ◌+◌, ◌≤◌, nat_le, max, Bool, true, false, ◌&&◌, if◌then◌else◌, List, [], ◌∷◌, map, Option, Some, None}
+use Rattle.std.specs.Prelude.{ℕ, suc, ◌+◌, nat_le, max, Bool, true, false, ◌&&◌, List, [], ◌∷◌, map, Option, Some, None}
 use denote.Enum.Bare.{sameb}
 use Rattle.algopy_library.specs.contracts.scalar.Scalar.{the_type}
 use Rattle.algopy_library.specs.declared.scalar.Scalar.{Scalar}

@@ -1,7 +1,5 @@
-//! Signatures and the module's table.
+//! Signatures of functions.
 
-use crate::constant::Constant;
-use crate::named::Entry;
 use crate::types::SourceType;
 use puya_base::{List, Name, Place};
 
@@ -18,12 +16,4 @@ pub struct Parameter {
 pub struct Signature {
     pub params: List<Parameter>,
     pub result: Option<SourceType>,
-}
-
-/// What the module defines.
-#[derive(Drop)]
-pub struct Table {
-    pub entries: List<Entry>,
-    pub constants: List<Constant>,
-    pub functions: List<Signature>,
 }

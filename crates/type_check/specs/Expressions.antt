@@ -31,8 +31,7 @@ use Rattle.source_names.specs.declared.named.Thing.TheVariants as thing
 use Rattle.source_names.specs.declared.named.Entry.{Entry}
 use Rattle.source_names.specs.Types.{typed, same_type, scalar_of, tuple_parts, fits_limits, same_scalar}
 use Rattle.source_names.specs.Literals.{number_of, joined, is_short}
-use Rattle.source_names.specs.Things.{Found, module_name, member_of, behind}
-use Rattle.source_names.specs.Headers.{is_myself}
+use Rattle.source_names.specs.Things.{Found, module_name, member_of, behind, is_myself}
 use Rattle.source_names.specs.Source.{Between, does, and_then, or_else, is_in, Ex, name, number, text, bytes, flag, paren, tuple, display, index, slice, call, unary, binary, choose, Exs, no_exprs, an_expr, Maybe, absent, present, Args, no_args, an_arg, place_of}
 use Rattle.source_names.specs.Source as source
 use Rattle.meaning_rules.specs.declared.meaning.Hope.{Hope}

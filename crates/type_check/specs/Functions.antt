@@ -17,7 +17,7 @@ use Rattle.source_names.specs.declared.signature.Parameter.{Parameter}
 use Rattle.source_names.specs.declared.signature.Signature.{Signature}
 use Rattle.source_names.specs.Types.{typed, is_nothing}
 use Rattle.source_names.specs.Faults.{breaks}
-use Rattle.source_names.specs.Headers.{signature, all_clashes}
+use Rattle.source_headers.specs.Headers.{signature, all_clashes}
 use Rattle.meaning_rules.specs.declared.scope.Scope.{Scope}
 use Rattle.meaning_rules.specs.declared.scope.Local.{Local}
 use Rattle.meaning_rules.specs.declared.scope.Status.{Status}

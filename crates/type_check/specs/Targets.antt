@@ -1,7 +1,8 @@
 -- The variables of a function (Python reference 4.2.1): the names that are targets, in reading order.
 use Rattle.std.specs.Prelude.{ℕ, Bool, true, false, ◌&&◌, if◌then◌else◌, List, [], ◌∷◌, ◌++◌, bytes_eq, Option, Some, None}
 use Rattle.py_grammar.specs.declared.word.Word.{Word}
-use Rattle.source_names.specs.Headers.{is_myself, is_seen}
+use Rattle.source_names.specs.Things.{is_myself}
+use Rattle.source_names.specs.Lookups.{is_seen}
 use Rattle.source_names.specs.Source.{Ex, name, number, text, bytes, flag, paren, tuple, display, member, index, slice, call, unary, binary, choose, Exs, no_exprs, an_expr}
 use Rattle.type_check.specs.Lines.{Line, skip, leave, again, give, claim, delete, alone, assign, augment, annotate, St, line, if_else, while_do, for_in, Sts, no_stmts, a_stmt, Branches, otherwise, a_branch}
 

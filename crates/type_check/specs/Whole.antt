@@ -14,9 +14,9 @@ use Rattle.path_rules.specs.declared.note.Note.{Note}
 use Rattle.path_rules.specs.Rules.{IsBroken, IsFirst}
 use Rattle.source_names.specs.declared.named.Entry.{Entry}
 use Rattle.source_names.specs.declared.signature.Signature.{Signature}
-use Rattle.source_names.specs.Headers.{signature, divided}
-use Rattle.source_names.specs.Modules.{entries, constants, signatures, names_faults}
-use Rattle.source_names.specs.Classes.{Base, a_contract, another, unknown, base_of, functions, methods_from, class_signatures, classes, all_class_faults, no_contract, first_from, is_approval, is_clear, has_myself}
+use Rattle.source_headers.specs.Headers.{signature, divided}
+use Rattle.source_headers.specs.Modules.{entries, constants, signatures, names_faults}
+use Rattle.source_headers.specs.Classes.{Base, a_contract, another, unknown, base_of, functions, methods_from, class_signatures, classes, all_class_faults, no_contract, first_from, is_approval, is_clear, has_myself}
 use Rattle.meaning_rules.specs.declared.scope.Scope.{Scope}
 use Rattle.meaning_rules.specs.declared.scope.Method.{Method}
 use Rattle.type_check.specs.Functions.{notes_of, end_of, typed_function, body_faults}

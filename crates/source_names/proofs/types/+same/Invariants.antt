@@ -1,4 +1,4 @@
-use Rattle.std.proofs.Common.{◌≡◌, ℕ, drop, ◌≤◌, length}
+use Rattle.std.proofs.Common.{◌≡◌, drop, ◌≤◌, length}
 use Rattle.source_names.specs.Types.{same_types}
 use Rattle.source_names.proofs.types.+same.Given as goal
 

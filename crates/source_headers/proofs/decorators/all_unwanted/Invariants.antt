@@ -1,0 +1,9 @@
+use Rattle.std.proofs.Common.{◌≡◌, ◌++◌, length}
+use Rattle.source_headers.specs.Headers as spec
+use Rattle.source_headers.proofs.decorators.all_unwanted.Given as goal
+
+abbrev pub invariant-loop-rest : goal.invariant-loop-rest
+invariant-loop-rest l = l.into ++ spec.all_unwanted l.names l.rest ≡ l.fn.into ++ spec.all_unwanted l.names l.fn.trees
+
+abbrev pub decreases-loop-rest : goal.decreases-loop-rest
+decreases-loop-rest l = length l.rest

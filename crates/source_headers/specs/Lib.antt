@@ -1,0 +1,5 @@
+pub mod Headers
+pub mod Modules
+pub mod Classes
+pub mod Packages
+pub mod Bases
