@@ -1,0 +1,4 @@
+mod Behind
+mod Variables
+mod Trees
+mod Walks

@@ -1,0 +1,23 @@
+//! What expressions mean where they stand, and the rules that they break.
+#![tactic(auto)]
+
+mod arguments;
+mod contexts;
+mod judging;
+mod locals;
+mod named;
+mod operators;
+mod places;
+mod sight;
+mod telling;
+mod tuples;
+mod types;
+
+pub use contexts::{context, freely, value_in};
+pub use judging::{judge, judge_listed, judge_operand};
+pub use locals::Locals;
+pub use named::read_at;
+pub use places::listed_place;
+pub use sight::Sight;
+pub use telling::note_all;
+pub use types::{is_nothing, tuple_parts};
