@@ -2,6 +2,7 @@
 #![tactic(auto)]
 
 mod arguments;
+mod asking;
 mod contexts;
 mod judging;
 mod locals;
@@ -12,9 +13,10 @@ mod sight;
 mod telling;
 mod tuples;
 mod types;
+mod view;
 
+pub use asking::{judge, judge_listed, judge_operand};
 pub use contexts::{context, freely, value_in};
-pub use judging::{judge, judge_listed, judge_operand};
 pub use locals::Locals;
 pub use named::read_at;
 pub use places::listed_place;
