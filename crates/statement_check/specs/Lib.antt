@@ -8,3 +8,4 @@ pub mod Annotating
 pub mod Simples
 pub mod Looping
 pub mod Checking
+pub mod Frames

@@ -10,9 +10,11 @@ ghost use Rattle.statement_check.specs.Lines as lines;
 ghost use Rattle.statement_check.specs.Looping.{IsOver};
 ghost use Rattle.statement_check.specs.Noting.{optional_block};
 ghost use Rattle.expression_check.specs.Sights.{seen};
+ghost use Rattle.statement_check.specs.Frames.{seen_in};
 ghost use Rattle.statement_check.specs.Statements as spec;
 
 use crate::annotating::{differs, tell_differs};
+use crate::frame::Frame;
 use crate::looping::{Over, for_stmt, over_meaning, turn_type};
 use crate::simple::check_line;
 use crate::stating::{joined, nothing_known, one_stmt};
@@ -23,7 +25,7 @@ use meaning_rules::{Typed, break_rule, expr_in};
 use path_rules::{Note, NoteArm, Notes};
 use puya_base::{List, Memory, Place, Rule};
 use py_grammar::{Block, Branch, Stmt, Tree, Word};
-use source_names::{SourceType, place_of};
+use source_names::place_of;
 use std::alloc::Global;
 
 fn is_true_kind(kind: &ExprKind) -> bool
@@ -183,39 +185,35 @@ fn note_for(alloc: Global, into: &mut Notes, number: u32, body: Notes) -> Result
 /// The statements of a block, one after the other, in a function that gives this.
 #[cycle(check)]
 pub fn check_block(
-    alloc: Global,
+    frame: &Frame<'_>,
     into: &mut Notes,
-    sight: &Sight,
-    gives: &Option<SourceType>,
     locals: &mut Locals,
     block: &Block,
 ) -> Result<Option<Stmts>, Memory>
-    ensures locals { OnOk result (locals.new ≡ (spec.checks (seen sight.now []) gives.now locals.old (lines.block_of block.now)).locals) }
-    ensures told { OnOk result (into.new ≡ into.old ++ (spec.checks (seen sight.now []) gives.now locals.old (lines.block_of block.now)).notes) }
-    ensures typed { IfOk result (λ ss. ss ≡ (spec.checks (seen sight.now []) gives.now locals.old (lines.block_of block.now)).typed) }
+    ensures locals { OnOk result (locals.new ≡ (spec.checks (seen_in frame.now) frame.now.gives.now locals.old (lines.block_of block.now)).locals) }
+    ensures told { OnOk result (into.new ≡ into.old ++ (spec.checks (seen_in frame.now) frame.now.gives.now locals.old (lines.block_of block.now)).notes) }
+    ensures typed { IfOk result (λ ss. ss ≡ (spec.checks (seen_in frame.now) frame.now.gives.now locals.old (lines.block_of block.now)).typed) }
 {
     match block {
-        Block::Line(line) => check_line(alloc, into, sight, gives, locals, line),
-        Block::Lines(stmts) => check_all(alloc, into, sight, gives, locals, stmts.as_slice()),
+        Block::Line(line) => check_line(frame.alloc, into, frame.sight, frame.gives, locals, line),
+        Block::Lines(stmts) => check_all(frame, into, locals, stmts.as_slice()),
     }
 }
 
 #[cycle(check)]
 fn check_all(
-    alloc: Global,
+    frame: &Frame<'_>,
     into: &mut Notes,
-    sight: &Sight,
-    gives: &Option<SourceType>,
     locals: &mut Locals,
     stmts: &[Stmt],
 ) -> Result<Option<Stmts>, Memory>
-    ensures locals { OnOk result (locals.new ≡ (spec.checks (seen sight.now []) gives.now locals.old (lines.stmts_of stmts.now)).locals) }
-    ensures told { OnOk result (into.new ≡ into.old ++ (spec.checks (seen sight.now []) gives.now locals.old (lines.stmts_of stmts.now)).notes) }
-    ensures typed { IfOk result (λ ss. ss ≡ (spec.checks (seen sight.now []) gives.now locals.old (lines.stmts_of stmts.now)).typed) }
+    ensures locals { OnOk result (locals.new ≡ (spec.checks (seen_in frame.now) frame.now.gives.now locals.old (lines.stmts_of stmts.now)).locals) }
+    ensures told { OnOk result (into.new ≡ into.old ++ (spec.checks (seen_in frame.now) frame.now.gives.now locals.old (lines.stmts_of stmts.now)).notes) }
+    ensures typed { IfOk result (λ ss. ss ≡ (spec.checks (seen_in frame.now) frame.now.gives.now locals.old (lines.stmts_of stmts.now)).typed) }
 {
-    let mut all = nothing_known(alloc, true);
+    let mut all = nothing_known(frame.alloc, true);
     for stmt in stmts {
-        let one = check_stmt(alloc, into, sight, gives, locals, stmt)?;
+        let one = check_stmt(frame, into, locals, stmt)?;
         all = joined(all, one)?;
     }
     Ok(all)
@@ -223,53 +221,47 @@ fn check_all(
 
 #[cycle(check)]
 fn check_stmt(
-    alloc: Global,
+    frame: &Frame<'_>,
     into: &mut Notes,
-    sight: &Sight,
-    gives: &Option<SourceType>,
     locals: &mut Locals,
     stmt: &Stmt,
 ) -> Result<Option<Stmts>, Memory>
-    ensures locals { OnOk result (locals.new ≡ (spec.check (seen sight.now []) gives.now locals.old (lines.stmt_of stmt.now)).locals) }
-    ensures told { OnOk result (into.new ≡ into.old ++ (spec.check (seen sight.now []) gives.now locals.old (lines.stmt_of stmt.now)).notes) }
-    ensures typed { IfOk result (λ ss. ss ≡ (spec.check (seen sight.now []) gives.now locals.old (lines.stmt_of stmt.now)).typed) }
+    ensures locals { OnOk result (locals.new ≡ (spec.check (seen_in frame.now) frame.now.gives.now locals.old (lines.stmt_of stmt.now)).locals) }
+    ensures told { OnOk result (into.new ≡ into.old ++ (spec.check (seen_in frame.now) frame.now.gives.now locals.old (lines.stmt_of stmt.now)).notes) }
+    ensures typed { IfOk result (λ ss. ss ≡ (spec.check (seen_in frame.now) frame.now.gives.now locals.old (lines.stmt_of stmt.now)).typed) }
 {
     match stmt {
-        Stmt::Simple(line) => check_line(alloc, into, sight, gives, locals, line),
+        Stmt::Simple(line) => check_line(frame.alloc, into, frame.sight, frame.gives, locals, line),
         Stmt::If(place, test, block, branches, otherwise) => {
-            let armed = check_arm(alloc, sight, gives, locals, no_arms(alloc), test, block)?;
+            let armed = check_arm(frame, locals, no_arms(frame.alloc), test, block)?;
             let branches = branches.as_slice();
-            let armed = check_branches(alloc, sight, gives, locals, armed, branches)?;
-            check_rest(alloc, into, sight, gives, locals, *place, armed, otherwise)
+            let armed = check_branches(frame, locals, armed, branches)?;
+            check_rest(frame, into, locals, *place, armed, otherwise)
         }
-        Stmt::While(place, test, block) => {
-            check_while(alloc, into, sight, gives, locals, *place, test, block)
-        }
+        Stmt::While(place, test, block) => { check_while(frame, into, locals, *place, test, block) }
         Stmt::For(place, word, tree, block) => {
-            check_for(alloc, into, sight, gives, locals, *place, word, tree, block)
+            check_for(frame, into, locals, *place, word, tree, block)
         }
     }
 }
 
 #[cycle(check)]
 fn check_arm(
-    alloc: Global,
-    sight: &Sight,
-    gives: &Option<SourceType>,
+    frame: &Frame<'_>,
     locals: &mut Locals,
     armed: Armed,
     test: &Tree,
     block: &Block,
 ) -> Result<Armed, Memory>
-    ensures locals { OnOk result (locals.new ≡ (spec.checks (seen sight.now []) gives.now locals.old (lines.block_of block.now)).locals) }
-    ensures notes { IfOk result (λ a. a.notes ≡ armed.notes ++ checking.note_of (seen sight.now []) gives.now locals.old (source.tree_of test.now) (lines.block_of block.now) ∷ []) }
-    ensures typed { IfOk result (λ a. a.typed ≡ checking.with_typed armed.typed (checking.arm_of (seen sight.now []) gives.now locals.old (source.tree_of test.now) (lines.block_of block.now))) }
+    ensures locals { OnOk result (locals.new ≡ (spec.checks (seen_in frame.now) frame.now.gives.now locals.old (lines.block_of block.now)).locals) }
+    ensures notes { IfOk result (λ a. a.notes ≡ armed.notes ++ checking.note_of (seen_in frame.now) frame.now.gives.now locals.old (source.tree_of test.now) (lines.block_of block.now) ∷ []) }
+    ensures typed { IfOk result (λ a. a.typed ≡ checking.with_typed armed.typed (checking.arm_of (seen_in frame.now) frame.now.gives.now locals.old (source.tree_of test.now) (lines.block_of block.now))) }
 {
-    let mut notes = Notes::new(alloc);
-    let typed = judge_condition(alloc, &mut notes, sight, locals, test)?;
+    let mut notes = Notes::new(frame.alloc);
+    let typed = judge_condition(frame.alloc, &mut notes, frame.sight, locals, test)?;
     let always = is_true(&typed);
-    let mut body = Notes::new(alloc);
-    let stmts = check_block(alloc, &mut body, sight, gives, locals, block)?;
+    let mut body = Notes::new(frame.alloc);
+    let stmts = check_block(frame, &mut body, locals, block)?;
     let note = NoteArm {
         test: notes,
         always,
@@ -280,109 +272,98 @@ fn check_arm(
 
 #[cycle(check)]
 fn check_branches(
-    alloc: Global,
-    sight: &Sight,
-    gives: &Option<SourceType>,
+    frame: &Frame<'_>,
     locals: &mut Locals,
     armed: Armed,
     branches: &[Branch],
 ) -> Result<Armed, Memory>
-    ensures locals { OnOk result (locals.new ≡ checking.locals_behind (seen sight.now []) gives.now locals.old (map lines.branch_of branches.now)) }
-    ensures notes { IfOk result (λ a. a.notes ≡ armed.notes ++ checking.notes_behind (seen sight.now []) gives.now locals.old (map lines.branch_of branches.now)) }
-    ensures typed { IfOk result (λ a. a.typed ≡ checking.arms_behind (seen sight.now []) gives.now locals.old armed.typed (map lines.branch_of branches.now)) }
+    ensures locals { OnOk result (locals.new ≡ checking.locals_behind (seen_in frame.now) frame.now.gives.now locals.old (map lines.branch_of branches.now)) }
+    ensures notes { IfOk result (λ a. a.notes ≡ armed.notes ++ checking.notes_behind (seen_in frame.now) frame.now.gives.now locals.old (map lines.branch_of branches.now)) }
+    ensures typed { IfOk result (λ a. a.typed ≡ checking.arms_behind (seen_in frame.now) frame.now.gives.now locals.old armed.typed (map lines.branch_of branches.now)) }
 {
     let mut all = armed;
     for branch in branches {
-        all = check_arm(
-            alloc,
-            sight,
-            gives,
-            locals,
-            all,
-            &branch.test,
-            &branch.block,
-        )?;
+        all = check_arm(frame, locals, all, &branch.test, &branch.block)?;
     }
     Ok(all)
 }
 
 #[cycle(check)]
 fn check_rest(
-    alloc: Global,
+    frame: &Frame<'_>,
     into: &mut Notes,
-    sight: &Sight,
-    gives: &Option<SourceType>,
     locals: &mut Locals,
     place: Place,
     armed: Armed,
     otherwise: &Option<Block>,
 ) -> Result<Option<Stmts>, Memory>
-    ensures locals { OnOk result (locals.new ≡ (spec.checks (seen sight.now []) gives.now locals.old (optional_block otherwise.now)).locals) }
-    ensures told { OnOk result (into.new ≡ into.old ++ note.If armed.notes (spec.checks (seen sight.now []) gives.now locals.old (optional_block otherwise.now)).notes ∷ []) }
-    ensures typed { IfOk result (λ ss. ss ≡ spec.if_typed place armed.typed (spec.checks (seen sight.now []) gives.now locals.old (optional_block otherwise.now)).typed) }
+    ensures locals { OnOk result (locals.new ≡ (spec.checks (seen_in frame.now) frame.now.gives.now locals.old (optional_block otherwise.now)).locals) }
+    ensures told { OnOk result (into.new ≡ into.old ++ note.If armed.notes (spec.checks (seen_in frame.now) frame.now.gives.now locals.old (optional_block otherwise.now)).notes ∷ []) }
+    ensures typed { IfOk result (λ ss. ss ≡ spec.if_typed place armed.typed (spec.checks (seen_in frame.now) frame.now.gives.now locals.old (optional_block otherwise.now)).typed) }
 {
-    let mut notes = Notes::new(alloc);
+    let mut notes = Notes::new(frame.alloc);
     match otherwise {
         Some(block) => {
-            let rest = check_block(alloc, &mut notes, sight, gives, locals, block)?;
-            end_if(alloc, into, place, armed, notes, rest)
+            let rest = check_block(frame, &mut notes, locals, block)?;
+            end_if(frame.alloc, into, place, armed, notes, rest)
         }
-        None => end_if(alloc, into, place, armed, notes, nothing_known(alloc, true)),
+        None => end_if(
+            frame.alloc,
+            into,
+            place,
+            armed,
+            notes,
+            nothing_known(frame.alloc, true),
+        ),
     }
 }
 
 #[cycle(check)]
 fn check_while(
-    alloc: Global,
+    frame: &Frame<'_>,
     into: &mut Notes,
-    sight: &Sight,
-    gives: &Option<SourceType>,
     locals: &mut Locals,
     place: Place,
     test: &Tree,
     block: &Block,
 ) -> Result<Option<Stmts>, Memory>
-    ensures locals { OnOk result (locals.new ≡ (spec.check (seen sight.now []) gives.now locals.old (lines.while_do place (source.tree_of test.now) (lines.block_of block.now))).locals) }
-    ensures told { OnOk result (into.new ≡ into.old ++ (spec.check (seen sight.now []) gives.now locals.old (lines.while_do place (source.tree_of test.now) (lines.block_of block.now))).notes) }
-    ensures typed { IfOk result (λ ss. ss ≡ (spec.check (seen sight.now []) gives.now locals.old (lines.while_do place (source.tree_of test.now) (lines.block_of block.now))).typed) }
+    ensures locals { OnOk result (locals.new ≡ (spec.check (seen_in frame.now) frame.now.gives.now locals.old (lines.while_do place (source.tree_of test.now) (lines.block_of block.now))).locals) }
+    ensures told { OnOk result (into.new ≡ into.old ++ (spec.check (seen_in frame.now) frame.now.gives.now locals.old (lines.while_do place (source.tree_of test.now) (lines.block_of block.now))).notes) }
+    ensures typed { IfOk result (λ ss. ss ≡ (spec.check (seen_in frame.now) frame.now.gives.now locals.old (lines.while_do place (source.tree_of test.now) (lines.block_of block.now))).typed) }
 {
-    let mut notes = Notes::new(alloc);
-    let typed = judge_condition(alloc, &mut notes, sight, locals, test)?;
+    let mut notes = Notes::new(frame.alloc);
+    let typed = judge_condition(frame.alloc, &mut notes, frame.sight, locals, test)?;
     let may_end = !is_true(&typed);
-    let mut body = Notes::new(alloc);
-    let stmts = check_block(alloc, &mut body, sight, gives, locals, block)?;
+    let mut body = Notes::new(frame.alloc);
+    let stmts = check_block(frame, &mut body, locals, block)?;
     note_loop(into, notes, may_end, body)?;
-    while_stmt(alloc, place, typed, stmts)
+    while_stmt(frame.alloc, place, typed, stmts)
 }
 
 #[cycle(check)]
 fn check_for(
-    alloc: Global,
+    frame: &Frame<'_>,
     into: &mut Notes,
-    sight: &Sight,
-    gives: &Option<SourceType>,
     locals: &mut Locals,
     place: Place,
     word: &Word,
     tree: &Tree,
     block: &Block,
 ) -> Result<Option<Stmts>, Memory>
-    ensures locals { OnOk result (locals.new ≡ (spec.check (seen sight.now []) gives.now locals.old (lines.for_in place word.now (source.tree_of tree.now) (lines.block_of block.now))).locals) }
-    ensures told { OnOk result (into.new ≡ into.old ++ (spec.check (seen sight.now []) gives.now locals.old (lines.for_in place word.now (source.tree_of tree.now) (lines.block_of block.now))).notes) }
-    ensures typed { IfOk result (λ ss. ss ≡ (spec.check (seen sight.now []) gives.now locals.old (lines.for_in place word.now (source.tree_of tree.now) (lines.block_of block.now))).typed) }
+    ensures locals { OnOk result (locals.new ≡ (spec.check (seen_in frame.now) frame.now.gives.now locals.old (lines.for_in place word.now (source.tree_of tree.now) (lines.block_of block.now))).locals) }
+    ensures told { OnOk result (into.new ≡ into.old ++ (spec.check (seen_in frame.now) frame.now.gives.now locals.old (lines.for_in place word.now (source.tree_of tree.now) (lines.block_of block.now))).notes) }
+    ensures typed { IfOk result (λ ss. ss ≡ (spec.check (seen_in frame.now) frame.now.gives.now locals.old (lines.for_in place word.now (source.tree_of tree.now) (lines.block_of block.now))).typed) }
 {
     match locals.number_of(word.name.as_str()) {
         Some(number) => {
-            let over = judge_over(alloc, into, sight, locals, tree)?;
+            let over = judge_over(frame.alloc, into, frame.sight, locals, tree)?;
             let at = word.place;
-            check_turns(
-                alloc, into, sight, gives, locals, place, at, number, over, block,
-            )
+            check_turns(frame, into, locals, place, at, number, over, block)
         }
         None => {
             break_rule(into, Rule::P16, word.place)?;
-            judge_over(alloc, into, sight, locals, tree)?;
-            check_bad_turns(alloc, into, sight, gives, locals, block)
+            judge_over(frame.alloc, into, frame.sight, locals, tree)?;
+            check_bad_turns(frame, into, locals, block)
         }
     }
 }
@@ -390,10 +371,8 @@ fn check_for(
 /// Each turn assigns the variable; P14 at it where it has another type.
 #[cycle(check)]
 fn check_turns(
-    alloc: Global,
+    frame: &Frame<'_>,
     into: &mut Notes,
-    sight: &Sight,
-    gives: &Option<SourceType>,
     locals: &mut Locals,
     place: Place,
     at: Place,
@@ -401,37 +380,35 @@ fn check_turns(
     over: Over,
     block: &Block,
 ) -> Result<Option<Stmts>, Memory>
-    ensures locals { OnOk result (locals.new ≡ (checking.turns (seen sight.now []) gives.now locals.old place at number over (lines.block_of block.now)).locals) }
-    ensures told { OnOk result (into.new ≡ into.old ++ (checking.turns (seen sight.now []) gives.now locals.old place at number over (lines.block_of block.now)).notes) }
-    ensures typed { IfOk result (λ ss. ss ≡ (checking.turns (seen sight.now []) gives.now locals.old place at number over (lines.block_of block.now)).typed) }
+    ensures locals { OnOk result (locals.new ≡ (checking.turns (seen_in frame.now) frame.now.gives.now locals.old place at number over (lines.block_of block.now)).locals) }
+    ensures told { OnOk result (into.new ≡ into.old ++ (checking.turns (seen_in frame.now) frame.now.gives.now locals.old place at number over (lines.block_of block.now)).notes) }
+    ensures typed { IfOk result (λ ss. ss ≡ (checking.turns (seen_in frame.now) frame.now.gives.now locals.old place at number over (lines.block_of block.now)).typed) }
 {
     let ty = turn_type(&over);
     let other = differs(locals.at(number), &ty);
     tell_differs(into, other, at)?;
     locals.fix(number, ty);
-    let mut body = Notes::new(alloc);
+    let mut body = Notes::new(frame.alloc);
     body.push(Note::Assign(number))?;
-    let stmts = check_block(alloc, &mut body, sight, gives, locals, block)?;
-    note_for(alloc, into, number, body)?;
-    for_stmt(alloc, place, number, other, over, stmts)
+    let stmts = check_block(frame, &mut body, locals, block)?;
+    note_for(frame.alloc, into, number, body)?;
+    for_stmt(frame.alloc, place, number, other, over, stmts)
 }
 
 /// `self` is no variable: its loop is judged, and no typed one.
 #[cycle(check)]
 fn check_bad_turns(
-    alloc: Global,
+    frame: &Frame<'_>,
     into: &mut Notes,
-    sight: &Sight,
-    gives: &Option<SourceType>,
     locals: &mut Locals,
     block: &Block,
 ) -> Result<Option<Stmts>, Memory>
-    ensures locals { OnOk result (locals.new ≡ (spec.checks (seen sight.now []) gives.now locals.old (lines.block_of block.now)).locals) }
-    ensures told { OnOk result (into.new ≡ into.old ++ note.Loop [] true (spec.checks (seen sight.now []) gives.now locals.old (lines.block_of block.now)).notes ∷ []) }
+    ensures locals { OnOk result (locals.new ≡ (spec.checks (seen_in frame.now) frame.now.gives.now locals.old (lines.block_of block.now)).locals) }
+    ensures told { OnOk result (into.new ≡ into.old ++ note.Loop [] true (spec.checks (seen_in frame.now) frame.now.gives.now locals.old (lines.block_of block.now)).notes ∷ []) }
     ensures typed { IfOk result (λ ss. ss ≡ None) }
 {
-    let mut body = Notes::new(alloc);
-    check_block(alloc, &mut body, sight, gives, locals, block)?;
-    note_loop(into, List::new(alloc), true, body)?;
+    let mut body = Notes::new(frame.alloc);
+    check_block(frame, &mut body, locals, block)?;
+    note_loop(into, List::new(frame.alloc), true, body)?;
     Ok(None)
 }

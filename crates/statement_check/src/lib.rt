@@ -4,6 +4,7 @@
 mod annotating;
 mod assigning;
 mod checking;
+mod frame;
 mod looping;
 mod places;
 mod simple;
@@ -14,4 +15,5 @@ mod updating;
 mod values;
 
 pub use checking::check_block;
+pub use frame::Frame;
 pub use targets::add_block;

@@ -14,7 +14,7 @@ use path_rules::{Note, Notes};
 use puya_base::{List, Memory, Name, Place, Refusal, Rule, split_off};
 use py_grammar::Func;
 use source_names::{ModuleNames, NameSet, Parameter, Signature, SourceType};
-use statement_check::{add_block, check_block};
+use statement_check::{Frame, add_block, check_block};
 use std::alloc::Global;
 
 /// How many places a function may have.
@@ -237,7 +237,12 @@ pub(crate) fn judge_function(
     let mut notes = Notes::new(alloc);
     assign_params(&mut notes, signature.params.as_slice())?;
     let gives = &signature.result;
-    let body = check_block(alloc, &mut notes, sight, gives, &mut locals, &func.body)?;
+    let frame = Frame {
+        alloc,
+        sight,
+        gives,
+    };
+    let body = check_block(&frame, &mut notes, &mut locals, &func.body)?;
     let typed = typed_function(alloc, signature, func, &locals, body)?;
     place_faults(told, func.name.place, &typed)?;
     Ok(Judged {
