@@ -2,3 +2,4 @@ mod Behind
 mod Variables
 mod Trees
 mod Walks
+pub mod Depths
