@@ -1,6 +1,6 @@
 //! Arguments of calls (Python reference, 6.3.4), each judged where it stands; P14 and P15 on these.
 
-ghost use Rattle.std.specs.Prelude.{◌≡◌, ◌++◌, List, IfOk, OnOk};
+ghost use Rattle.std.specs.Prelude.{◌≡◌, ◌++◌, false, List, IfOk, OnOk};
 ghost use Rattle.source_names.specs.declared.signature.Signature.{Signature};
 ghost use Rattle.call_rules.specs.Callees as callees;
 ghost use Rattle.call_rules.specs.Calls as spec;
