@@ -12,175 +12,175 @@ use Rattle.awst_eval.proofs.Looped.{behind_these}
 use Rattle.awst_eval.proofs.Depths.{level, optional_depth, stmt_depth, body_depth, arms_depth, picks_depth}
 use Rattle.awst_eval.proofs.meaning.+run.Given as goal
 
-abbrev pub decreases-value : goal.decreases-value
-decreases-value l = l.frame.now.clock * level l.frame.now.contract.now.funcs + (8 * (goal.size-value l) + 2)
+abbrev pub decreases-expressions::value : goal.decreases-expressions::value
+decreases-expressions::value l = l.frame.now.clock * level l.frame.now.contract.now.funcs + (8 * (goal.size-expressions::value l) + 2)
 
-abbrev pub decreases-kind_value : goal.decreases-kind_value
-decreases-kind_value l = l.frame.now.clock * level l.frame.now.contract.now.funcs + (8 * (goal.size-kind_value l) + 1)
+abbrev pub decreases-expressions::kind_value : goal.decreases-expressions::kind_value
+decreases-expressions::kind_value l = l.frame.now.clock * level l.frame.now.contract.now.funcs + (8 * (goal.size-expressions::kind_value l) + 1)
 
-abbrev pub decreases-values : goal.decreases-values
-decreases-values l = l.frame.now.clock * level l.frame.now.contract.now.funcs + (8 * (goal.size-values l) + 3)
+abbrev pub decreases-expressions::values : goal.decreases-expressions::values
+decreases-expressions::values l = l.frame.now.clock * level l.frame.now.contract.now.funcs + (8 * (goal.size-expressions::values l) + 3)
 
-abbrev pub decreases-primitive_value : goal.decreases-primitive_value
-decreases-primitive_value l = l.frame.now.clock * level l.frame.now.contract.now.funcs + (8 * (goal.size-primitive_value l) + 4)
+abbrev pub decreases-expressions::primitive_value : goal.decreases-expressions::primitive_value
+decreases-expressions::primitive_value l = l.frame.now.clock * level l.frame.now.contract.now.funcs + (8 * (goal.size-expressions::primitive_value l) + 4)
 
-abbrev pub decreases-tuple_value : goal.decreases-tuple_value
-decreases-tuple_value l = l.frame.now.clock * level l.frame.now.contract.now.funcs + (8 * (goal.size-tuple_value l) + 4)
+abbrev pub decreases-expressions::tuple_value : goal.decreases-expressions::tuple_value
+decreases-expressions::tuple_value l = l.frame.now.clock * level l.frame.now.contract.now.funcs + (8 * (goal.size-expressions::tuple_value l) + 4)
 
-abbrev pub decreases-item_value : goal.decreases-item_value
-decreases-item_value l = l.frame.now.clock * level l.frame.now.contract.now.funcs + (8 * (max (size-Expr l.e.now) (size-Index l.index.now)) + 4)
+abbrev pub decreases-expressions::item_value : goal.decreases-expressions::item_value
+decreases-expressions::item_value l = l.frame.now.clock * level l.frame.now.contract.now.funcs + (8 * (max (size-Expr l.e.now) (size-Index l.index.now)) + 4)
 
-abbrev pub decreases-part_value : goal.decreases-part_value
-decreases-part_value l = l.frame.now.clock * level l.frame.now.contract.now.funcs + (8 * (size-Expr l.e.now) + 3)
+abbrev pub decreases-expressions::part_value : goal.decreases-expressions::part_value
+decreases-expressions::part_value l = l.frame.now.clock * level l.frame.now.contract.now.funcs + (8 * (size-Expr l.e.now) + 3)
 
-abbrev pub decreases-element_value : goal.decreases-element_value
-decreases-element_value l = l.frame.now.clock * level l.frame.now.contract.now.funcs + (8 * (max (size-Expr l.e.now) (size-Expr l.i.now)) + 3)
+abbrev pub decreases-expressions::element_value : goal.decreases-expressions::element_value
+decreases-expressions::element_value l = l.frame.now.clock * level l.frame.now.contract.now.funcs + (8 * (max (size-Expr l.e.now) (size-Expr l.i.now)) + 3)
 
-abbrev pub decreases-both : goal.decreases-both
-decreases-both l = l.frame.now.clock * level l.frame.now.contract.now.funcs + (8 * (max (size-Expr l.a.now) (size-Expr l.b.now)) + 3)
+abbrev pub decreases-expressions::both : goal.decreases-expressions::both
+decreases-expressions::both l = l.frame.now.clock * level l.frame.now.contract.now.funcs + (8 * (max (size-Expr l.a.now) (size-Expr l.b.now)) + 3)
 
-abbrev pub decreases-one_of : goal.decreases-one_of
-decreases-one_of l = l.frame.now.clock * level l.frame.now.contract.now.funcs + (8 * (max (size-Expr l.a.now) (size-Expr l.b.now)) + 3)
+abbrev pub decreases-expressions::one_of : goal.decreases-expressions::one_of
+decreases-expressions::one_of l = l.frame.now.clock * level l.frame.now.contract.now.funcs + (8 * (max (size-Expr l.a.now) (size-Expr l.b.now)) + 3)
 
-abbrev pub decreases-chosen : goal.decreases-chosen
-decreases-chosen l = l.frame.now.clock * level l.frame.now.contract.now.funcs + (8 * (max (size-Expr l.c.now) (max (size-Expr l.a.now) (size-Expr l.b.now))) + 3)
+abbrev pub decreases-expressions::chosen : goal.decreases-expressions::chosen
+decreases-expressions::chosen l = l.frame.now.clock * level l.frame.now.contract.now.funcs + (8 * (max (size-Expr l.c.now) (max (size-Expr l.a.now) (size-Expr l.b.now))) + 3)
 
-abbrev pub decreases-call_value : goal.decreases-call_value
-decreases-call_value l = l.frame.now.clock * level l.frame.now.contract.now.funcs + (8 * (goal.size-call_value l) + 4)
+abbrev pub decreases-expressions::call_value : goal.decreases-expressions::call_value
+decreases-expressions::call_value l = l.frame.now.clock * level l.frame.now.contract.now.funcs + (8 * (goal.size-expressions::call_value l) + 4)
 
-abbrev pub decreases-optional_value : goal.decreases-optional_value
-decreases-optional_value l = l.frame.now.clock * level l.frame.now.contract.now.funcs + (8 * (optional_depth l.e.now) + 3)
+abbrev pub decreases-expressions::optional_value : goal.decreases-expressions::optional_value
+decreases-expressions::optional_value l = l.frame.now.clock * level l.frame.now.contract.now.funcs + (8 * (optional_depth l.e.now) + 3)
 
-abbrev pub decreases-two_values : goal.decreases-two_values
-decreases-two_values l = l.frame.now.clock * level l.frame.now.contract.now.funcs + (8 * (size-Expr l.e.now) + 3)
+abbrev pub decreases-statements::two_values : goal.decreases-statements::two_values
+decreases-statements::two_values l = l.frame.now.clock * level l.frame.now.contract.now.funcs + (8 * (size-Expr l.e.now) + 3)
 
-abbrev pub decreases-updated : goal.decreases-updated
-decreases-updated l = l.frame.now.clock * level l.frame.now.contract.now.funcs + (8 * (size-Expr l.e.now) + 4)
+abbrev pub decreases-statements::updated : goal.decreases-statements::updated
+decreases-statements::updated l = l.frame.now.clock * level l.frame.now.contract.now.funcs + (8 * (size-Expr l.e.now) + 4)
 
-abbrev pub decreases-assigned_value : goal.decreases-assigned_value
-decreases-assigned_value l = l.frame.now.clock * level l.frame.now.contract.now.funcs + (8 * (size-Expr l.e.now) + 5)
+abbrev pub decreases-statements::assigned_value : goal.decreases-statements::assigned_value
+decreases-statements::assigned_value l = l.frame.now.clock * level l.frame.now.contract.now.funcs + (8 * (size-Expr l.e.now) + 5)
 
-abbrev pub decreases-assign : goal.decreases-assign
-decreases-assign l = l.frame.now.clock * level l.frame.now.contract.now.funcs + (8 * (size-Expr l.e.now) + 6)
+abbrev pub decreases-statements::assign : goal.decreases-statements::assign
+decreases-statements::assign l = l.frame.now.clock * level l.frame.now.contract.now.funcs + (8 * (size-Expr l.e.now) + 6)
 
-abbrev pub decreases-effect_done : goal.decreases-effect_done
-decreases-effect_done l = l.frame.now.clock * level l.frame.now.contract.now.funcs + (8 * (size-Expr l.e.now) + 3)
+abbrev pub decreases-statements::effect_done : goal.decreases-statements::effect_done
+decreases-statements::effect_done l = l.frame.now.clock * level l.frame.now.contract.now.funcs + (8 * (size-Expr l.e.now) + 3)
 
-abbrev pub decreases-assert_done : goal.decreases-assert_done
-decreases-assert_done l = l.frame.now.clock * level l.frame.now.contract.now.funcs + (8 * (size-Expr l.e.now) + 3)
+abbrev pub decreases-statements::assert_done : goal.decreases-statements::assert_done
+decreases-statements::assert_done l = l.frame.now.clock * level l.frame.now.contract.now.funcs + (8 * (size-Expr l.e.now) + 3)
 
-abbrev pub decreases-return_done : goal.decreases-return_done
-decreases-return_done l = l.frame.now.clock * level l.frame.now.contract.now.funcs + (8 * (optional_depth l.e.now) + 4)
+abbrev pub decreases-statements::return_done : goal.decreases-statements::return_done
+decreases-statements::return_done l = l.frame.now.clock * level l.frame.now.contract.now.funcs + (8 * (optional_depth l.e.now) + 4)
 
-abbrev pub decreases-arms_done : goal.decreases-arms_done
-decreases-arms_done l = l.frame.now.clock * level l.frame.now.contract.now.funcs + (8 * (max (arms_depth l.arms.now) (body_depth l.rest.now)) + 6)
+abbrev pub decreases-statements::arms_done : goal.decreases-statements::arms_done
+decreases-statements::arms_done l = l.frame.now.clock * level l.frame.now.contract.now.funcs + (8 * (max (arms_depth l.arms.now) (body_depth l.rest.now)) + 6)
 
-abbrev pub decreases-if_done : goal.decreases-if_done
-decreases-if_done l = l.frame.now.clock * level l.frame.now.contract.now.funcs + (8 * (max (arms_depth l.arms.now) (body_depth l.rest.now)) + 7)
+abbrev pub decreases-statements::if_done : goal.decreases-statements::if_done
+decreases-statements::if_done l = l.frame.now.clock * level l.frame.now.contract.now.funcs + (8 * (max (arms_depth l.arms.now) (body_depth l.rest.now)) + 7)
 
-abbrev pub decreases-turn : goal.decreases-turn
-decreases-turn l = l.frame.now.clock * level l.frame.now.contract.now.funcs + (8 * (body_depth l.body.now) + 6)
+abbrev pub decreases-loops::turn : goal.decreases-loops::turn
+decreases-loops::turn l = l.frame.now.clock * level l.frame.now.contract.now.funcs + (8 * (body_depth l.body.now) + 6)
 
-abbrev pub decreases-while_turns : goal.decreases-while_turns
-decreases-while_turns l = l.frame.now.clock * level l.frame.now.contract.now.funcs + (8 * (max (size-Expr l.c.now) (body_depth l.body.now)) + 7)
+abbrev pub decreases-loops::while_turns : goal.decreases-loops::while_turns
+decreases-loops::while_turns l = l.frame.now.clock * level l.frame.now.contract.now.funcs + (8 * (max (size-Expr l.c.now) (body_depth l.body.now)) + 7)
 
-abbrev pub decreases-while_done : goal.decreases-while_done
-decreases-while_done l = l.frame.now.clock * level l.frame.now.contract.now.funcs + (8 * (max (size-Expr l.c.now) (body_depth l.body.now) + 1) + 0)
+abbrev pub decreases-loops::while_done : goal.decreases-loops::while_done
+decreases-loops::while_done l = l.frame.now.clock * level l.frame.now.contract.now.funcs + (8 * (max (size-Expr l.c.now) (body_depth l.body.now) + 1) + 0)
 
-abbrev pub decreases-range_turns : goal.decreases-range_turns
-decreases-range_turns l = l.frame.now.clock * level l.frame.now.contract.now.funcs + (8 * (body_depth l.body.now) + 7)
+abbrev pub decreases-loops::range_turns : goal.decreases-loops::range_turns
+decreases-loops::range_turns l = l.frame.now.clock * level l.frame.now.contract.now.funcs + (8 * (body_depth l.body.now) + 7)
 
-abbrev pub decreases-range_done : goal.decreases-range_done
-decreases-range_done l = l.frame.now.clock * level l.frame.now.contract.now.funcs + (8 * (max (max (optional_depth l.start.now) (size-Expr l.stop.now)) (body_depth l.body.now) + 1) + 1)
+abbrev pub decreases-loops::range_done : goal.decreases-loops::range_done
+decreases-loops::range_done l = l.frame.now.clock * level l.frame.now.contract.now.funcs + (8 * (max (max (optional_depth l.start.now) (size-Expr l.stop.now)) (body_depth l.body.now) + 1) + 1)
 
-abbrev pub decreases-byte_turns : goal.decreases-byte_turns
-decreases-byte_turns l = l.frame.now.clock * level l.frame.now.contract.now.funcs + (8 * (body_depth l.body.now) + 7)
+abbrev pub decreases-loops::byte_turns : goal.decreases-loops::byte_turns
+decreases-loops::byte_turns l = l.frame.now.clock * level l.frame.now.contract.now.funcs + (8 * (body_depth l.body.now) + 7)
 
-abbrev pub decreases-item_turns : goal.decreases-item_turns
-decreases-item_turns l = l.frame.now.clock * level l.frame.now.contract.now.funcs + (8 * (body_depth l.body.now + 1) + 0)
+abbrev pub decreases-loops::item_turns : goal.decreases-loops::item_turns
+decreases-loops::item_turns l = l.frame.now.clock * level l.frame.now.contract.now.funcs + (8 * (body_depth l.body.now + 1) + 0)
 
-abbrev pub decreases-each_item : goal.decreases-each_item
-decreases-each_item l = l.frame.now.clock * level l.frame.now.contract.now.funcs + (8 * (max (size-Expr l.e.now) (body_depth l.body.now) + 1) + 1)
+abbrev pub decreases-loops::each_item : goal.decreases-loops::each_item
+decreases-loops::each_item l = l.frame.now.clock * level l.frame.now.contract.now.funcs + (8 * (max (size-Expr l.e.now) (body_depth l.body.now) + 1) + 1)
 
-abbrev pub decreases-each_done : goal.decreases-each_done
-decreases-each_done l = l.frame.now.clock * level l.frame.now.contract.now.funcs + (8 * (max (size-Expr l.e.now) (body_depth l.body.now) + 1) + 2)
+abbrev pub decreases-loops::each_done : goal.decreases-loops::each_done
+decreases-loops::each_done l = l.frame.now.clock * level l.frame.now.contract.now.funcs + (8 * (max (size-Expr l.e.now) (body_depth l.body.now) + 1) + 2)
 
-abbrev pub decreases-picked : goal.decreases-picked
-decreases-picked l = l.frame.now.clock * level l.frame.now.contract.now.funcs + (8 * (max (picks_depth l.picks.now) (body_depth l.rest.now)) + 6)
+abbrev pub decreases-statements::picked : goal.decreases-statements::picked
+decreases-statements::picked l = l.frame.now.clock * level l.frame.now.contract.now.funcs + (8 * (max (picks_depth l.picks.now) (body_depth l.rest.now)) + 6)
 
-abbrev pub decreases-match_done : goal.decreases-match_done
-decreases-match_done l = l.frame.now.clock * level l.frame.now.contract.now.funcs + (8 * (max (size-Expr l.e.now) (max (picks_depth l.picks.now) (body_depth l.rest.now))) + 7)
+abbrev pub decreases-statements::match_done : goal.decreases-statements::match_done
+decreases-statements::match_done l = l.frame.now.clock * level l.frame.now.contract.now.funcs + (8 * (max (size-Expr l.e.now) (max (picks_depth l.picks.now) (body_depth l.rest.now))) + 7)
 
-abbrev pub decreases-statement : goal.decreases-statement
-decreases-statement l = l.frame.now.clock * level l.frame.now.contract.now.funcs + (8 * (stmt_depth l.s.now) + 4)
+abbrev pub decreases-statements::statement : goal.decreases-statements::statement
+decreases-statements::statement l = l.frame.now.clock * level l.frame.now.contract.now.funcs + (8 * (stmt_depth l.s.now) + 4)
 
-abbrev pub decreases-body_done : goal.decreases-body_done
-decreases-body_done l = l.frame.now.clock * level l.frame.now.contract.now.funcs + (8 * (body_depth l.body.now) + 5)
+abbrev pub decreases-statements::body_done : goal.decreases-statements::body_done
+decreases-statements::body_done l = l.frame.now.clock * level l.frame.now.contract.now.funcs + (8 * (body_depth l.body.now) + 5)
 
-abbrev pub decreases-function_value : goal.decreases-function_value
-decreases-function_value l = l.frame.now.clock * level l.frame.now.contract.now.funcs + (8 * body_depth l.frame.now.func.now.body + 14)
+abbrev pub decreases-calls::function_value : goal.decreases-calls::function_value
+decreases-calls::function_value l = l.frame.now.clock * level l.frame.now.contract.now.funcs + (8 * body_depth l.frame.now.func.now.body + 14)
 
-abbrev pub decreases-open_function : goal.decreases-open_function
-decreases-open_function l = l.frame.now.clock * level l.frame.now.contract.now.funcs + (8 * body_depth l.frame.now.func.now.body + 15)
+abbrev pub decreases-calls::open_function : goal.decreases-calls::open_function
+decreases-calls::open_function l = l.frame.now.clock * level l.frame.now.contract.now.funcs + (8 * body_depth l.frame.now.func.now.body + 15)
 
-abbrev pub decreases-called : goal.decreases-called
-decreases-called l = l.clock * level l.contract.now.funcs + 1
+abbrev pub decreases-calls::called : goal.decreases-calls::called
+decreases-calls::called l = l.clock * level l.contract.now.funcs + 1
 
 -- a level above what it calls, so that it stands below a call one level up
-abbrev pub decreases-numbered : goal.decreases-numbered
-decreases-numbered l = suc l.clock * level l.contract.now.funcs
+abbrev pub decreases-calls::numbered : goal.decreases-calls::numbered
+decreases-calls::numbered l = suc l.clock * level l.contract.now.funcs
 
-abbrev pub invariant-values-loop-e : goal.invariant-values-loop-e
-invariant-values-loop-e l =
+abbrev pub invariant-expressions::values-loop-e : goal.invariant-expressions::values-loop-e
+invariant-expressions::values-loop-e l =
     values_of (setting_of l.frame) l.line (all_meant l.env) (trees_of l.parts) (world_of l.initial.world)
     ≡ after (values_of (setting_of l.frame) l.line (all_meant l.env) (trees_of (drop l.e-index l.parts)) (world_of l.world)) (behind_these (all_meant l.out))
 
 -- what is left of the arms, and that it is no deeper
-abbrev pub invariant-arms_done-loop-left : goal.invariant-arms_done-loop-left
-invariant-arms_done-loop-left l =
+abbrev pub invariant-statements::arms_done-loop-left : goal.invariant-statements::arms_done-loop-left
+invariant-statements::arms_done-loop-left l =
     (all_do (setting_of l.frame) l.frame.clock (otherwise l.place (variables_of l.frame) l.a (map arm_of l.arms) (map statement_of l.rest)) (all_meant l.initial.env) (world_of l.initial.world)
     ≡ all_do (setting_of l.frame) l.frame.clock (otherwise l.place (variables_of l.frame) l.a (map arm_of l.left) (map statement_of l.rest)) (all_meant l.env) (world_of l.world))
     × (arms_depth l.left ≤ arms_depth l.arms)
 
-abbrev pub decreases-arms_done-loop-left : goal.decreases-arms_done-loop-left
-decreases-arms_done-loop-left l = length l.left
+abbrev pub decreases-statements::arms_done-loop-left : goal.decreases-statements::arms_done-loop-left
+decreases-statements::arms_done-loop-left l = length l.left
 
-abbrev pub invariant-body_done-loop-s : goal.invariant-body_done-loop-s
-invariant-body_done-loop-s l =
+abbrev pub invariant-statements::body_done-loop-s : goal.invariant-statements::body_done-loop-s
+invariant-statements::body_done-loop-s l =
     (all_do (setting_of l.frame) l.frame.clock (all_plain (variables_of l.frame) l.a (map statement_of l.body)) (all_meant l.initial.env) (world_of l.initial.world)
     ≡ all_do (setting_of l.frame) l.frame.clock (all_plain (variables_of l.frame) l.a (map statement_of (drop l.s-index l.body))) (all_meant l.env) (world_of l.world))
     × (body_depth (drop l.s-index l.body) ≤ body_depth l.body)
 
 -- what is left of the picks, and that it is no deeper
-abbrev pub invariant-picked-loop-left : goal.invariant-picked-loop-left
-invariant-picked-loop-left l =
+abbrev pub invariant-statements::picked-loop-left : goal.invariant-statements::picked-loop-left
+invariant-statements::picked-loop-left l =
     (picked (setting_of l.frame) l.frame.clock (meant l.v) (picks_plain (variables_of l.frame) l.a (map pick_of l.picks)) (all_do (setting_of l.frame) l.frame.clock (all_plain (variables_of l.frame) l.a (map statement_of l.rest)) (all_meant l.initial.env)) (all_meant l.initial.env) (world_of l.initial.world)
     ≡ picked (setting_of l.frame) l.frame.clock (meant l.v) (picks_plain (variables_of l.frame) l.a (map pick_of l.left)) (all_do (setting_of l.frame) l.frame.clock (all_plain (variables_of l.frame) l.a (map statement_of l.rest)) (all_meant l.env)) (all_meant l.env) (world_of l.world))
     × (picks_depth l.left ≤ picks_depth l.picks)
 
-abbrev pub decreases-picked-loop-left : goal.decreases-picked-loop-left
-decreases-picked-loop-left l = length l.left
+abbrev pub decreases-statements::picked-loop-left : goal.decreases-statements::picked-loop-left
+decreases-statements::picked-loop-left l = length l.left
 
-abbrev pub invariant-while_turns-loop-condition : goal.invariant-while_turns-loop-condition
-invariant-while_turns-loop-condition l =
+abbrev pub invariant-loops::while_turns-loop-condition : goal.invariant-loops::while_turns-loop-condition
+invariant-loops::while_turns-loop-condition l =
     turns (suc l.frame.clock) l.price (turn_while (λ variables. value_of (setting_of l.frame) l.line variables (tree_of l.c))) (all_do (setting_of l.frame) l.frame.clock (all_plain (variables_of l.frame) l.inner (map statement_of l.body))) tt (all_meant l.initial.env) (world_of l.initial.world)
     ≡ turns (suc l.left) l.price (turn_while (λ variables. value_of (setting_of l.frame) l.line variables (tree_of l.c))) (all_do (setting_of l.frame) l.frame.clock (all_plain (variables_of l.frame) l.inner (map statement_of l.body))) tt (all_meant l.env) (world_of l.world)
 
-abbrev pub decreases-while_turns-loop-condition : goal.decreases-while_turns-loop-condition
-decreases-while_turns-loop-condition l = l.left
+abbrev pub decreases-loops::while_turns-loop-condition : goal.decreases-loops::while_turns-loop-condition
+decreases-loops::while_turns-loop-condition l = l.left
 
-abbrev pub invariant-range_turns-loop-item : goal.invariant-range_turns-loop-item
-invariant-range_turns-loop-item l =
+abbrev pub invariant-loops::range_turns-loop-item : goal.invariant-loops::range_turns-loop-item
+invariant-loops::range_turns-loop-item l =
     turns (suc l.frame.clock) l.price (turn_of_range l.items.x l.items.step l.stop) (all_do (setting_of l.frame) l.frame.clock (all_plain (variables_of l.frame) l.inner (map statement_of l.body))) l.items.from (all_meant l.initial.env) (world_of l.initial.world)
     ≡ turns (suc l.left) l.price (turn_of_range l.items.x l.items.step l.stop) (all_do (setting_of l.frame) l.frame.clock (all_plain (variables_of l.frame) l.inner (map statement_of l.body))) l.item (all_meant l.env) (world_of l.world)
 
-abbrev pub decreases-range_turns-loop-item : goal.decreases-range_turns-loop-item
-decreases-range_turns-loop-item l = l.left
+abbrev pub decreases-loops::range_turns-loop-item : goal.decreases-loops::range_turns-loop-item
+decreases-loops::range_turns-loop-item l = l.left
 
-abbrev pub invariant-byte_turns-loop-items : goal.invariant-byte_turns-loop-items
-invariant-byte_turns-loop-items l =
+abbrev pub invariant-loops::byte_turns-loop-items : goal.invariant-loops::byte_turns-loop-items
+invariant-loops::byte_turns-loop-items l =
     turns (suc l.frame.clock) l.price (turn_of_items l.x) (all_do (setting_of l.frame) l.frame.clock (all_plain (variables_of l.frame) l.inner (map statement_of l.body))) (items_of (string l.bytes)) (all_meant l.initial.env) (world_of l.initial.world)
     ≡ turns (suc l.left) l.price (turn_of_items l.x) (all_do (setting_of l.frame) l.frame.clock (all_plain (variables_of l.frame) l.inner (map statement_of l.body))) (items_of (string l.items)) (all_meant l.env) (world_of l.world)
 
-abbrev pub decreases-byte_turns-loop-items : goal.decreases-byte_turns-loop-items
-decreases-byte_turns-loop-items l = length l.items
+abbrev pub decreases-loops::byte_turns-loop-items : goal.decreases-loops::byte_turns-loop-items
+decreases-loops::byte_turns-loop-items l = length l.items
