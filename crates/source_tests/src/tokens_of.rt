@@ -1,4 +1,4 @@
-use crate::{Token, TokenKind, add_literal, number_value, tokens};
+use py_lexer::{Token, TokenKind, add_literal, number_value, tokens};
 use puya_base::{Blob, Place, SourceFault};
 use std::alloc::{AllocError, Global};
 use std::test::Fail;

@@ -1,4 +1,4 @@
-use crate::{Flaw, Statement, push_statement, said, words};
+use teal_line::{Flaw, Statement, push_statement, said, words};
 use avm_ops::encode;
 use puya_base::Blob;
 use std::alloc::Global;

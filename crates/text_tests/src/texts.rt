@@ -1,4 +1,4 @@
-use crate::{print, read};
+use teal_text::{print, read};
 use avm_asm::{Labels, Line, Lines};
 use avm_run::check_program;
 use puya_base::{Blob, Memory};

@@ -1,4 +1,4 @@
-use crate::{Change, Ending, Mark, Moment, evaluate};
+use awst_eval::{Change, Ending, Mark, Moment, evaluate};
 use avm_state::{Call, Ledger};
 use awst::{Contract, Expr, ExprKind, Exprs, Func, Primitive, Stmt, StmtKind, Stmts, Target, Ty};
 use puya_base::{Blob, List, Memory, Name, Place};

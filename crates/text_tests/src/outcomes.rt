@@ -1,4 +1,4 @@
-use crate::push_ran;
+use outcome_text::push_ran;
 use avm_run::{Outcome, Ran};
 use avm_state::Ledger;
 use puya_base::{Blob, Value};

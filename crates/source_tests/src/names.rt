@@ -1,6 +1,6 @@
 //! What names stand for, asked once.
 
-use crate::{
+use source_names::{
     Entry, ModuleNames, NameSet, SourceType, Thing, dotted, fits_limits, is_short, joined,
     module_name, number_of, same_type, written_value,
 };
