@@ -1,11 +1,3 @@
-pub mod Ranks
-pub mod Names
-pub mod Outcomes
-pub mod Climbs
-pub mod Lists
-pub mod Words
-pub mod TypeWords
 pub mod StatementWords
 pub mod ModuleWords
 pub mod Parsed
-pub mod Order

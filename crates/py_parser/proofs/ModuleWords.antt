@@ -31,13 +31,13 @@ use Rattle.py_grammar.specs.Parser.{Outcome, took, stuck, spent, Parser, and_the
 use Rattle.py_grammar.specs.Flow.{full, run, again, gather, listing, follow}
 use Rattle.py_grammar.proofs.Flow.{full_is, again_is, gather_is, listing_is}
 use Rattle.py_parser.specs.declared.signature.Signature.{Signature}
-use Rattle.py_parser.specs.Expressions.{on, place_at, texts}
-use Rattle.py_parser.specs.Types.{dotted}
+use Rattle.py_expressions.specs.Expressions.{on, place_at, texts}
+use Rattle.py_expressions.specs.Types.{dotted}
 use Rattle.py_parser.specs.Statements.{block}
 use Rattle.py_parser.specs.Modules.{note, param, params, any_params, in_parens, answered, signature, decorator, decorators, func_at, func, field, pass, member_text, member, member_by, begins_member, members, class_name, class_body, class, known_as, imported, whole_import, name_list, names_listed, names_in_parens, names, from_import, import, const_text, const_bytes, const_number, const_flag, constant, constant_by, definition, item_text, item, item_by, begins_item, items, module_}
-use Rattle.py_parser.proofs.Outcomes.{same_then, assoc, then_pure, regroup, either_then, part_is, follow_then, then_follow, again_run, many_then}
-use Rattle.py_parser.proofs.Lists.{place_kept, gathered, gathered_all, texts_then}
-use Rattle.py_parser.proofs.TypeWords.{dotted_path}
+use Rattle.py_expressions.proofs.Outcomes.{same_then, assoc, then_pure, regroup, either_then, part_is, follow_then, then_follow, again_run, many_then}
+use Rattle.py_expressions.proofs.Lists.{place_kept, gathered, gathered_all, texts_then}
+use Rattle.py_expressions.proofs.TypeWords.{dotted_path}
 use Rattle.py_parser.proofs.StatementWords.{block_is}
 
 -- ---- parameters and signatures

@@ -13,7 +13,7 @@ use Rattle.py_grammar.specs.Whole.{IsModule, IsFirstHopeless, EndsOnce}
 use Rattle.py_grammar.proofs.Ends.{symbols_end}
 use Rattle.py_grammar.proofs.Whole.{taken_is_derived, one_tree, stops_at_first, nothing_left, something_stands, no_module}
 use Rattle.py_parser.specs.Answer.{IsOnlyTree, IsNoModule}
-use Rattle.py_parser.specs.Expressions.{place_at}
+use Rattle.py_expressions.specs.Expressions.{place_at}
 use Rattle.py_parser.specs.Modules.{module_}
 use Rattle.py_parser.proofs.ModuleWords.{module_is}
 

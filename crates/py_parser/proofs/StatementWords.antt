@@ -26,12 +26,12 @@ use Rattle.py_grammar.specs.Ahead.{ahead}
 use Rattle.py_grammar.specs.Parser.{Outcome, took, stuck, spent, Parser, and_then, ◌>>=◌, ◌<$>◌, pure, peek, take_symbol, expect, either, fit_for}
 use Rattle.py_grammar.specs.Flow.{full, run, again, gather, listing, follow}
 use Rattle.py_grammar.proofs.Flow.{full_is, again_is, gather_is}
-use Rattle.py_parser.specs.Levels.{begins}
-use Rattle.py_parser.specs.Expressions.{on, on_expr, exprs_tree}
+use Rattle.py_expressions.specs.Levels.{begins}
+use Rattle.py_expressions.specs.Expressions.{on, on_expr, exprs_tree}
 use Rattle.py_parser.specs.Statements.{update_of, update, returned, message, asserted, deleted, values, initial, annotated, updated, updated_by, maybe_updated, assigned, assigned_by, valued, simple, simple_by, begins_simple, begins_stmt, line, lines, indented, block, headed, branch, branch_of, branches, otherwise, others, if_stmt, while_stmt, for_stmt, compound, compound_by, stmt}
-use Rattle.py_parser.proofs.Outcomes.{same_then, assoc, then_pure, regroup, either_then, part_is, follow_then, then_follow}
-use Rattle.py_parser.proofs.Lists.{gathered_all}
-use Rattle.py_parser.proofs.Words.{exprs_tree_is}
+use Rattle.py_expressions.proofs.Outcomes.{same_then, assoc, then_pure, regroup, either_then, part_is, follow_then, then_follow}
+use Rattle.py_expressions.proofs.Lists.{gathered_all}
+use Rattle.py_expressions.proofs.Words.{exprs_tree_is}
 
 -- ---- statements of one line
 

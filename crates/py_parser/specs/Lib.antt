@@ -1,9 +1,3 @@
 pub mod Answer
-pub mod Lexemes
-pub mod Reads
-pub mod Levels
-pub mod Expressions
-pub mod Types
 pub mod Statements
 pub mod Modules
-pub mod Nests

@@ -28,8 +28,8 @@ use Rattle.py_grammar.specs.Trees.{word, literal}
 use Rattle.py_grammar.specs.Grammar.{imported as imported_rule}
 use Rattle.py_parser.specs.declared.signature.Signature.{Signature}
 use Rattle.py_grammar.specs.Flow.{full, again, gather, listing}
-use Rattle.py_parser.specs.Expressions.{place_at, on, texts}
-use Rattle.py_parser.specs.Types.{dotted}
+use Rattle.py_expressions.specs.Expressions.{place_at, on, texts}
+use Rattle.py_expressions.specs.Types.{dotted}
 use Rattle.py_parser.specs.Statements.{block}
 
 -- ---- functions

@@ -22,8 +22,8 @@ use Rattle.py_grammar.specs.Sets.{begins, simple_starters}
 use Rattle.py_grammar.specs.Parser.{Outcome, Parser, ◌>>=◌, ◌<$>◌, pure, peek, take_symbol, expect}
 use Rattle.py_grammar.specs.Trees.{word}
 use Rattle.py_grammar.specs.Flow.{full, again, gather}
-use Rattle.py_parser.specs.Levels.{when}
-use Rattle.py_parser.specs.Expressions.{on, on_expr, exprs_tree}
+use Rattle.py_expressions.specs.Levels.{when}
+use Rattle.py_expressions.specs.Expressions.{on, on_expr, exprs_tree}
 
 -- the operator that a symbol is in an augmented assignment
 abbrev pub update : Sym → Option UpdateOp

@@ -7,10 +7,9 @@ ghost use Rattle.py_lexer.specs.Tokens.{IsAnswer};
 ghost use Rattle.py_grammar.specs.Symbols.{symbols};
 ghost use Rattle.py_parser.specs.Answer.{IsTreeOf};
 
-use crate::cursor::{Cursor, Stop};
-use crate::lexemes::lexemes;
 use crate::module::module;
 use puya_base::{Refusal, Rule, SourceFault};
+use py_expressions::{Cursor, Stop, lexemes};
 use py_grammar::Module;
 use py_lexer::Tokens;
 use std::alloc::Global;

@@ -2,14 +2,11 @@
 
 ghost use Rattle.std.specs.Prelude.{◌≡◌, ◌≤◌, ◌<◌, length, OnOk};
 ghost use Rattle.py_parser.specs.Modules as spec;
-ghost use Rattle.py_parser.specs.Reads.{Reads};
+ghost use Rattle.py_expressions.specs.Reads.{Reads};
 
-use crate::atom::texts;
-use crate::build::word;
-use crate::cursor::{Cursor, Stop};
 use crate::func::func;
-use crate::types::{annotation, dotted};
 use puya_base::List;
+use py_expressions::{Cursor, Stop, annotation, dotted, texts, word};
 use py_grammar::{Class, Member, Sym, Word};
 use std::alloc::Global;
 

@@ -3,16 +3,12 @@
 ghost use Rattle.std.specs.Prelude.{◌≡◌, ◌≤◌, ◌<◌, length, OnOk, []};
 ghost use Rattle.py_grammar.specs.declared.module.Func.{Func};
 ghost use Rattle.py_parser.specs.Modules as spec;
-ghost use Rattle.py_parser.specs.Reads.{Reads};
+ghost use Rattle.py_expressions.specs.Reads.{Reads};
 
-use crate::build::word;
-use crate::cursor::{Cursor, Stop};
-use crate::expression::tree;
-use crate::level::Level;
 use crate::signature::Signature;
 use crate::statement::block;
-use crate::types::annotation;
 use puya_base::{List, Place};
+use py_expressions::{Cursor, Level, Stop, annotation, tree, word};
 use py_grammar::{Block, Func, Param, Sym, Tree, TypeTree};
 use std::alloc::Global;
 

@@ -2,12 +2,10 @@
 
 ghost use Rattle.std.specs.Prelude.{◌≡◌, ◌≤◌, ◌<◌, length, OnOk};
 ghost use Rattle.py_parser.specs.Modules as spec;
-ghost use Rattle.py_parser.specs.Reads.{Reads};
+ghost use Rattle.py_expressions.specs.Reads.{Reads};
 
-use crate::build::word;
-use crate::cursor::{Cursor, Stop};
-use crate::types::dotted;
 use puya_base::{List, Place};
+use py_expressions::{Cursor, Stop, dotted, word};
 use py_grammar::{Import, Item, Sym, Word};
 use std::alloc::Global;
 

@@ -2,24 +2,13 @@
 #![tactic(auto)]
 
 mod answer;
-mod atom;
-mod build;
 mod class;
-mod cursor;
-mod expression;
 mod func;
 mod import;
-mod kinds;
-mod level;
-mod lexeme;
-mod lexemes;
 mod module;
-mod place;
-mod postfix;
 mod signature;
 mod simple;
 mod statement;
-mod types;
 
 pub use answer::parse;
 pub use py_grammar::{

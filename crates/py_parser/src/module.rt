@@ -2,15 +2,13 @@
 
 ghost use Rattle.std.specs.Prelude.{◌≡◌, ◌≤◌, ◌<◌, length, OnOk, []};
 ghost use Rattle.py_parser.specs.Modules as spec;
-ghost use Rattle.py_parser.specs.Reads.{Reads};
+ghost use Rattle.py_expressions.specs.Reads.{Reads};
 
-use crate::atom::texts;
-use crate::build::{literal, word};
 use crate::class::class;
-use crate::cursor::{Cursor, Stop};
 use crate::func::func;
 use crate::import::import;
 use puya_base::List;
+use py_expressions::{Cursor, Stop, literal, texts, word};
 use py_grammar::{ConstValue, Item, Module, Sym};
 use std::alloc::Global;
 

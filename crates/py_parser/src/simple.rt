@@ -3,14 +3,10 @@
 ghost use Rattle.std.specs.Prelude.{◌≡◌, ◌≤◌, ◌<◌, ◌+◌, length, OnOk};
 ghost use Rattle.py_grammar.specs.Parts.{Part};
 ghost use Rattle.py_grammar.specs.Flow.{full};
-ghost use Rattle.py_parser.specs.Expressions.{exprs_tree};
 ghost use Rattle.py_parser.specs.Statements as spec;
-ghost use Rattle.py_parser.specs.Reads.{Reads};
+ghost use Rattle.py_expressions.specs.Reads.{Reads};
 
-use crate::cursor::{Cursor, Stop};
-use crate::expression::{Grammar, tree};
-use crate::level::{Level, begins};
-use crate::types::annotation;
+use py_expressions::{Cursor, Level, Stop, annotation, begins, expr, exprs, tree};
 use py_grammar::{Exprs, Simple, Sym, Tree, UpdateOp};
 use std::alloc::Global;
 
@@ -33,30 +29,6 @@ fn update_op(sym: Sym) -> Option<UpdateOp>
         Sym::RightEqual => Some(UpdateOp::ShiftRight),
         _ => None,
     }
-}
-
-/// An expression (6.15).
-pub fn expr(alloc: Global, tokens: &mut Cursor<'_>) -> Result<Tree, Stop>
-    ensures reads { Reads (full Part.Expr tokens.old) result tokens.new }
-    ensures fewer { OnOk result (length tokens.new < length tokens.old) }
-{
-    tree(alloc, tokens, Level::Choice)
-}
-
-/// Expressions with commas between (6.15).
-#[tactic(auto, unfolding(crate::specs::Expressions::exprs_tree))]
-fn exprs(alloc: Global, tokens: &mut Cursor<'_>) -> Result<Exprs, Stop>
-    ensures reads { Reads (exprs_tree tokens.old) result tokens.new }
-    ensures fewer { OnOk result (length tokens.new < length tokens.old) }
-{
-    let grammar = Grammar {
-        alloc,
-        left: tokens.room(),
-        level: Level::Choice,
-        tree,
-    };
-    let (items, comma) = grammar.exprs(tokens)?;
-    Ok(Exprs { items, comma })
 }
 
 /// `return` (7.6).

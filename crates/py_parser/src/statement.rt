@@ -4,13 +4,12 @@ ghost use Rattle.std.specs.Prelude.{◌≡◌, ◌≤◌, ◌<◌, ◌+◌, leng
 ghost use Rattle.py_grammar.specs.Parts.{Part};
 ghost use Rattle.py_grammar.specs.Flow.{full};
 ghost use Rattle.py_parser.specs.Statements as spec;
-ghost use Rattle.py_parser.specs.Nests.{NestsIn};
-ghost use Rattle.py_parser.specs.Reads.{Reads};
+ghost use Rattle.py_expressions.specs.Nests.{NestsIn};
+ghost use Rattle.py_expressions.specs.Reads.{Reads};
 
-use crate::build::word;
-use crate::cursor::{Cursor, Stop};
-use crate::simple::{expr, line};
+use crate::simple::line;
 use puya_base::List;
+use py_expressions::{Cursor, Stop, expr, word};
 use py_grammar::{Block, Branch, Stmt, Sym, Tree};
 use std::alloc::Global;
 
