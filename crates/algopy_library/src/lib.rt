@@ -7,8 +7,6 @@ mod operator;
 mod row;
 mod scalar;
 mod table;
-#[cfg(test)]
-mod tests;
 
 pub use form::{Admits, Form, admitted};
 pub use member::{Member, member_named};

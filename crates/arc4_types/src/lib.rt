@@ -17,8 +17,6 @@ mod method;
 mod number;
 mod placed;
 mod row;
-#[cfg(test)]
-mod tests;
 
 pub use abi::{Abi, Abis};
 pub use abi_fault::AbiFault;

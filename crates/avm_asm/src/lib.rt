@@ -7,8 +7,6 @@ mod laws;
 mod line;
 mod places;
 mod sizes;
-#[cfg(test)]
-mod tests;
 
 pub use assembly::assemble;
 pub use laws::{code_has_its_size, lines_are_read_back};

@@ -11,8 +11,6 @@ mod local_map;
 mod local_steps;
 mod log_steps;
 mod readers;
-#[cfg(test)]
-mod tests;
 
 pub use call::Call;
 pub use ledger::Ledger;

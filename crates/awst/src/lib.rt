@@ -13,8 +13,6 @@ mod node_amounts;
 mod primitive;
 mod reach;
 mod statement;
-#[cfg(test)]
-mod tests;
 mod ty;
 mod waits;
 mod weights;

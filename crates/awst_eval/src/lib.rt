@@ -14,8 +14,6 @@ mod needs;
 mod prices;
 mod seen;
 mod stop;
-#[cfg(test)]
-mod tests;
 mod variables;
 mod world;
 

@@ -3,7 +3,5 @@
 
 mod lanes;
 mod row;
-#[cfg(test)]
-mod tests;
 
 pub use row::BitRow;

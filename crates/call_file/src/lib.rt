@@ -10,8 +10,6 @@ mod load;
 mod parts;
 mod read;
 mod saved;
-#[cfg(test)]
-mod tests;
 mod values;
 
 pub use fault::CallFault;

@@ -4,11 +4,7 @@
 mod build;
 mod compiling;
 mod form;
-#[cfg(test)]
-mod grammar_tests;
 mod programs;
-#[cfg(test)]
-mod tests;
 mod tree;
 
 pub use build::{Build, Builds, CompileFault};

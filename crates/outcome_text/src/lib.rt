@@ -4,7 +4,5 @@
 mod ledger_text;
 mod lines;
 mod ran_text;
-#[cfg(test)]
-mod tests;
 
 pub use ran_text::push_ran;

@@ -9,8 +9,6 @@ mod merging;
 mod note;
 mod order;
 mod summary;
-#[cfg(test)]
-mod tests;
 mod told;
 
 pub use answer::broken;

@@ -5,8 +5,6 @@ mod copies;
 mod path;
 mod segment;
 mod sequencing;
-#[cfg(test)]
-mod tests;
 
 pub use copies::{Copies, Moves, Pair, Pairs};
 pub use sequencing::sequence;

@@ -11,8 +11,6 @@ mod memory_files;
 mod memory_sink;
 mod name;
 mod source;
-#[cfg(test)]
-mod tests;
 mod value;
 
 pub use blob::Blob;

@@ -7,8 +7,6 @@ mod literals;
 mod numbers;
 mod pieces;
 mod scan;
-#[cfg(test)]
-mod tests;
 mod token;
 mod words;
 

@@ -8,8 +8,6 @@ mod defined;
 mod headers;
 mod methods;
 mod modules;
-#[cfg(test)]
-mod tests;
 
 pub use classes::{Base, all_class_faults, base_of, class_faults, is_program, no_contract};
 pub use defined::Table;

@@ -12,8 +12,6 @@ mod module_names;
 mod name_set;
 mod named;
 mod signature;
-#[cfg(test)]
-mod tests;
 mod things;
 mod trees;
 mod types;

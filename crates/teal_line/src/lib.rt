@@ -11,8 +11,6 @@ mod operands;
 mod printing;
 mod reading;
 mod statement;
-#[cfg(test)]
-mod tests;
 
 pub use cutting::words;
 pub use laws::statements_read_back;

@@ -10,8 +10,6 @@ mod numbering;
 mod printing;
 mod reading;
 mod targets;
-#[cfg(test)]
-mod tests;
 
 pub use fault::TealFault;
 pub use laws::printed_text_is_read_back;

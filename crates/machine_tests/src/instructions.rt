@@ -1,4 +1,4 @@
-use crate::{DecodeFault, Imm, Instr, Operands, apply, decode_at, encode, row, shape};
+use avm_ops::{DecodeFault, Imm, Instr, Operands, apply, decode_at, encode, row, shape};
 use puya_base::{Blob, List, Memory, StepFault, Value};
 use std::alloc::{AllocError, Global};
 use std::test::Fail;

@@ -1,4 +1,4 @@
-use crate::{CallFault, Saved, read_call};
+use call_file::{CallFault, Saved, read_call};
 use puya_base::{At, Blob, Memory, Value};
 use std::alloc::Global;
 use std::test::Fail;

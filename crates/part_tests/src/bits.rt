@@ -1,7 +1,7 @@
 //! Rows of lengths around lanes and groups of lanes.
 ghost use Rattle.std.specs.Prelude.{◌≡◌, length, IfOk};
 
-use crate::row::BitRow;
+use bit_lanes::BitRow;
 use puya_base::Memory;
 use std::alloc::Global;
 use std::test::Fail;

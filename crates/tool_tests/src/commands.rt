@@ -1,5 +1,5 @@
-use crate::{Status, Words, run_words};
 use puya_base::{MemoryFiles, MemorySink, Name, Sink, SinkFault};
+use puya_tool::{Status, Words, run_words};
 use std::alloc::Global;
 use std::test::Fail;
 

@@ -1,6 +1,6 @@
 //! What the tables hold, asked once.
 
-use crate::{
+use algopy_library::{
     Admits, Member, Operation, Operator, Row, Scalar, admitted, between, built_in, has_truth,
     inverted, is_logged, member_named, package_named, typing_named, value_member,
 };

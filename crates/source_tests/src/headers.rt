@@ -1,10 +1,10 @@
 //! What a small module defines, and the rules that a class breaks, asked once.
 
-use crate::{Table, all_class_faults, methods_of, no_contract, table};
 use puya_base::{Blob, List, Memory, Name, Place, Refusal, Rule};
 use py_grammar::{
     Block, Class, ConstValue, Func, Import, Item, Literal, Member, Param, Tree, TypeTree, Word,
 };
+use source_headers::{Table, all_class_faults, methods_of, no_contract, table};
 use source_names::Thing;
 use std::alloc::Global;
 use std::test::Fail;

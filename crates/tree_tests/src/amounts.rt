@@ -1,4 +1,4 @@
-use crate::{
+use awst::{
     Contract, Expr, ExprKind, Exprs, Func, Funcs, Primitive, Stmt, StmtKind, Stmts, Ty, Tys,
     places, stack_need, weight,
 };

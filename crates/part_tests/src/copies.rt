@@ -1,7 +1,7 @@
 ghost use Rattle.std.specs.Prelude.{◌≡◌, true, false};
 ghost use Rattle.phi_copies.specs.Parallel.{no_two_write_one, uses};
 
-use crate::{Copies, Moves, Pair, sequence};
+use phi_copies::{Copies, Moves, Pair, sequence};
 use puya_base::List;
 use std::alloc::Global;
 use std::test::Fail;

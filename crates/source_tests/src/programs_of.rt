@@ -1,4 +1,4 @@
-use crate::{Builds, CompileFault, compile};
+use compiler::{Builds, CompileFault, compile};
 use puya_base::{At, Level, Place, Refusal, Rule};
 use std::alloc::Global;
 use std::test::Fail;

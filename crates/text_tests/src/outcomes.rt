@@ -1,6 +1,6 @@
-use crate::push_ran;
 use avm_run::{Outcome, Ran};
 use avm_state::Ledger;
+use outcome_text::push_ran;
 use puya_base::{Blob, Value};
 use std::alloc::Global;
 use std::test::Fail;

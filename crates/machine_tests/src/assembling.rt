@@ -2,7 +2,7 @@ ghost use Rattle.std.specs.Prelude.{◌<◌, length, IfOk, IfSome};
 ghost use Rattle.avm_ops.specs.Code.{HasForm};
 ghost use Rattle.avm_asm.specs.Listing.{AreLines, IsLine};
 
-use crate::{AsmFault, JumpKind, Labels, Line, Lines, TableKind, assemble, size};
+use avm_asm::{AsmFault, JumpKind, Labels, Line, Lines, TableKind, assemble, size};
 use avm_ops::{Imm, Instr, decode_at};
 use puya_base::{List, Memory};
 use std::alloc::Global;

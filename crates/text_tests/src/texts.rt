@@ -1,9 +1,9 @@
-use crate::{print, read};
 use avm_asm::{Labels, Line, Lines};
 use avm_run::check_program;
 use puya_base::{Blob, Memory};
 use std::alloc::{AllocError, Global};
 use std::test::Fail;
+use teal_text::{print, read};
 
 fn add_labels(text: &mut String, labels: &Labels) -> Result<(), AllocError> {
     for label in labels.as_slice() {

@@ -1,4 +1,4 @@
-use crate::{
+use puya_base::{
     At, Blob, FileFault, Files, List, MemoryFiles, MemorySink, Name, Sink, SinkFault, Value,
     split_off,
 };

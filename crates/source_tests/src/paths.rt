@@ -1,7 +1,6 @@
 //! Bodies of a few statements.
 
-use crate::answer::broken;
-use crate::note::{Note, NoteArm, Notes};
+use path_rules::{Note, NoteArm, Notes, broken};
 use puya_base::{List, Memory, Place, Refusal, Rule};
 use std::alloc::Global;
 use std::test::Fail;

@@ -1,4 +1,4 @@
-use crate::{Abi, AbiFault, AbiValue, AbiValues, Abis, decode, encode, selector, signature};
+use arc4_types::{Abi, AbiFault, AbiValue, AbiValues, Abis, decode, encode, selector, signature};
 use puya_base::{At, Blob, Boxed, List, Memory};
 use std::alloc::Global;
 use std::test::Fail;

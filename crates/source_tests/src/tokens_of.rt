@@ -1,5 +1,5 @@
-use crate::{Token, TokenKind, add_literal, number_value, tokens};
 use puya_base::{Blob, Place, SourceFault};
+use py_lexer::{Token, TokenKind, add_literal, number_value, tokens};
 use std::alloc::{AllocError, Global};
 use std::test::Fail;
 

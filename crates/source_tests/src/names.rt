@@ -1,12 +1,12 @@
 //! What names stand for, asked once.
 
-use crate::{
-    Entry, ModuleNames, NameSet, SourceType, Thing, dotted, fits_limits, is_short, joined,
-    module_name, number_of, same_type, written_value,
-};
 use algopy_library::{Row, Scalar};
 use puya_base::{Blob, List, Memory, Name, Place};
 use py_grammar::{Literal, TypeArg, TypeTree, Word};
+use source_names::{
+    Entry, ModuleNames, NameSet, SourceType, Thing, dotted, fits_limits, is_short, joined,
+    module_name, number_of, same_type, written_value,
+};
 use std::alloc::Global;
 use std::test::Fail;
 

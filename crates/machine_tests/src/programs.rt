@@ -1,4 +1,4 @@
-use crate::{Outcome, ProgramFault, Ran, check_program, run};
+use avm_run::{Outcome, ProgramFault, Ran, check_program, run};
 use avm_state::{Call, Ledger};
 use puya_base::{Blob, Blobs, List, Memory, Value};
 use std::alloc::Global;

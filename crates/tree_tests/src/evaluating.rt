@@ -1,6 +1,6 @@
-use crate::{Change, Ending, Mark, Moment, evaluate};
 use avm_state::{Call, Ledger};
 use awst::{Contract, Expr, ExprKind, Exprs, Func, Primitive, Stmt, StmtKind, Stmts, Target, Ty};
+use awst_eval::{Change, Ending, Mark, Moment, evaluate};
 use puya_base::{Blob, List, Memory, Name, Place};
 use std::alloc::Global;
 use std::test::Fail;

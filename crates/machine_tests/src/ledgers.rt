@@ -1,4 +1,4 @@
-use crate::{Call, Ledger};
+use avm_state::{Call, Ledger};
 use puya_base::{Blob, Blobs, List, Memory, StepFault, Value};
 use std::alloc::Global;
 use std::test::Fail;

@@ -1,8 +1,8 @@
-use crate::{Flaw, Statement, push_statement, said, words};
 use avm_ops::encode;
 use puya_base::Blob;
 use std::alloc::Global;
 use std::test::Fail;
+use teal_line::{Flaw, Statement, push_statement, said, words};
 
 fn flaw_name(flaw: Flaw) -> &'static [u8] {
     match flaw {

@@ -1,0 +1,17 @@
+//! Sources: their tokens, trees, names, first lines, paths and programs, each public call asked once and more.
+#![tactic(auto)]
+
+#[cfg(test)]
+mod headers;
+#[cfg(test)]
+mod library;
+#[cfg(test)]
+mod names;
+#[cfg(test)]
+mod paths;
+#[cfg(test)]
+mod programs_of;
+#[cfg(test)]
+mod tokens_of;
+#[cfg(test)]
+mod trees_of;
