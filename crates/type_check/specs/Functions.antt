@@ -22,17 +22,15 @@ use Rattle.meaning_rules.specs.declared.scope.Scope.{Scope}
 use Rattle.meaning_rules.specs.declared.scope.Local.{Local}
 use Rattle.meaning_rules.specs.declared.scope.Status.{Status}
 use Rattle.meaning_rules.specs.declared.scope.Status.TheVariants as status
-use Rattle.type_check.specs.Lines.{block_of}
-use Rattle.type_check.specs.Targets.{all_targets, first_ones}
-use Rattle.type_check.specs.Statements.{Done, checks, seeing}
+use Rattle.statement_check.specs.Lines.{block_of}
+use Rattle.statement_check.specs.Noting.{target_local}
+use Rattle.statement_check.specs.Targets.{all_targets, first_ones}
+use Rattle.statement_check.specs.Statements.{Done, checks, seeing}
 
 -- ---- variables
 
 abbrev pub param_local : Parameter → Local
 param_local p = record { name = p.name; status = status.Fixed p.ty }
-
-abbrev pub target_local : Word → Local
-target_local w = record { name = w.name; status = status.Unseen }
 
 abbrev pub parameter_names : List Parameter → List (List ℕ)
 parameter_names ps = map (λ (p : Parameter). p.name) ps

@@ -1,0 +1,5 @@
+mod Behind
+mod Variables
+mod Trees
+mod Walks
+pub mod Depths

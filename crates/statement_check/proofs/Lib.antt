@@ -1,0 +1,5 @@
+mod Rows
+mod Behind
+mod Seeing
+mod Blocks
+mod Stepping
