@@ -1,5 +1,5 @@
 use Rattle.avm_asm.specs.Listing.{AreLines}
-use Rattle.avm_asm.proofs.tests.add_ones.Given as goal
+use Rattle.machine_tests.proofs.assembling.add_ones.Given as goal
 
 abbrev pub invariant-loop-one : goal.invariant-loop-one
 invariant-loop-one l = AreLines l.lines

@@ -1,6 +1,6 @@
 use Rattle.std.proofs.Common.{rules}
 use Rattle.avm_ops.specs.Table.{row_of, table}
-use Rattle.avm_asm.proofs.tests.push_one.Goals as goal
+use Rattle.machine_tests.proofs.assembling.plus.Goals as goal
 
 pub returns : goal.returns
 unfolding row_of table

@@ -1,5 +1,5 @@
 use Rattle.std.proofs.Common.{◌≡◌, length}
-use Rattle.bit_lanes.proofs.tests.multiples_of_three.Given as goal
+use Rattle.part_tests.proofs.bits.multiples_of_three.Given as goal
 
 abbrev pub invariant-loop-i : goal.invariant-loop-i
 invariant-loop-i l = length l.row ≡ l.bits
