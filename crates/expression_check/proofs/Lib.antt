@@ -3,3 +3,4 @@ mod Variables
 mod Trees
 mod Walks
 pub mod Depths
+mod Finding

@@ -44,7 +44,10 @@ pub tree-Index : (p : Place) (e : Tree) (es : List Tree) (c : Bool) → tree_of 
 tree-Index p e es c = ap tree_of (sym (tree.rolls-Index p e es c)) ∙ fold-roll-Tree OneArg Ex arg_layer tree_layer (Tree-F.Index p e es c)
 
 pub tree-Slice : (p : Place) (e : Tree) (a b : Option Tree) → tree_of (tree.Slice p e a b) ≡ slice p (tree_of e) (maybe_of (option_map tree_of a)) (maybe_of (option_map tree_of b))
-tree-Slice p e a b = ap tree_of (sym (tree.rolls-Slice p e a b)) ∙ fold-roll-Tree OneArg Ex arg_layer tree_layer (Tree-F.Slice p e a b)
+tree-Slice p e None None = ap tree_of (sym (tree.rolls-Slice p e None None)) ∙ fold-roll-Tree OneArg Ex arg_layer tree_layer (Tree-F.Slice p e None None)
+tree-Slice p e None (Some b) = ap tree_of (sym (tree.rolls-Slice p e None (Some b))) ∙ fold-roll-Tree OneArg Ex arg_layer tree_layer (Tree-F.Slice p e None (Some b))
+tree-Slice p e (Some a) None = ap tree_of (sym (tree.rolls-Slice p e (Some a) None)) ∙ fold-roll-Tree OneArg Ex arg_layer tree_layer (Tree-F.Slice p e (Some a) None)
+tree-Slice p e (Some a) (Some b) = ap tree_of (sym (tree.rolls-Slice p e (Some a) (Some b))) ∙ fold-roll-Tree OneArg Ex arg_layer tree_layer (Tree-F.Slice p e (Some a) (Some b))
 
 pub tree-Call : (p : Place) (f : Tree) (as_ : List Arg) (c : Bool) → tree_of (tree.Call p f as_ c) ≡ call p (tree_of f) (args_of (map arg_of as_))
 tree-Call p f as_ c = ap tree_of (sym (tree.rolls-Call p f as_ c)) ∙ fold-roll-Tree OneArg Ex arg_layer tree_layer (Tree-F.Call p f as_ c)

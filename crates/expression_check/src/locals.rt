@@ -30,8 +30,12 @@ impl Model for Locals {
     ghost use Rattle.meaning_rules.specs.declared.scope.Local.{Local};
     ghost use Rattle.meaning_rules.specs.Operations.{local_from};
     ghost use Rattle.expression_check.specs.Variables.{local_names};
+    ghost use Rattle.source_names.specs.contracts.types.SourceType as source_type;
+    ghost use Rattle.std.specs.Coded.{codes};
 
     ghost Value = { List Local };
+
+    ghost coded = { Prim.hlevel (codes, source_type.the_row.coded) };
 
     ghost view = { λ l. l.list.items };
 
