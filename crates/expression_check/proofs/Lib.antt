@@ -4,3 +4,6 @@ mod Trees
 mod Walks
 pub mod Depths
 mod Finding
+mod Members
+mod Shapes
+mod Told

@@ -1,6 +1,5 @@
 -- Parts of tuples, items of lists and arguments of calls, one after another.
 use Rattle.std.proofs.Common.{◌≡◌, ℕ, suc, ◌+◌, ◌<◌, ◌≤◌, List, [], ◌∷◌, ◌++◌, Bool, true, false, Option, Some, None, length, drop, get_or, map, refl, sym, ap, ◌∙◌, arith, append_assoc, append-nil}
-use Rattle.std.specs.Prelude.{◌&&◌, if◌then◌else◌}
 use Rattle.std.proofs.lemmas.List.{at_drop_more, at_drop_all}
 use Rattle.awst.specs.declared.expression.Expr.{Expr}
 use Rattle.path_rules.specs.declared.note.Note.{Note}
@@ -11,14 +10,13 @@ use Rattle.source_names.specs.Source.{tree_of, exs_of, arg_of, args_of}
 use Rattle.meaning_rules.specs.declared.meaning.Context.{Context}
 use Rattle.meaning_rules.specs.declared.meaning.Typed.{Typed}
 use Rattle.meaning_rules.specs.declared.scope.Scope.{Scope}
-use Rattle.meaning_rules.specs.Meanings.{freely, operand_of}
-use Rattle.meaning_rules.specs.Operations.{Parts as Seen, both, is_missing, types_in, exprs_in}
+use Rattle.meaning_rules.specs.Operations.{Parts as Seen, both, types_in, exprs_in}
 use Rattle.call_rules.specs.declared.arguments.Known.{Known}
 use Rattle.call_rules.specs.declared.slots.Used.{Used}
 use Rattle.call_rules.specs.Calls as calls
 use Rattle.expression_check.specs.declared.tuples.Parts.{Parts}
 use Rattle.expression_check.specs.Bindings.{complete_with, known_with as arguments_with, given_at, part_of, used_at}
-use Rattle.expression_check.specs.Expressions.{arguments, items, judge, parts}
+use Rattle.expression_check.specs.Expressions.{arguments, parts}
 use Rattle.expression_check.specs.Gathered.{Gathers, exprs_with, known_with, types_with}
 use Rattle.expression_check.specs.Walking.{behind_when, itself, mapped}
 

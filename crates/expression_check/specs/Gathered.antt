@@ -1,5 +1,5 @@
 -- The parts of a tuple as the code gathers them: whether each is known, and their types and trees apart.
-use Rattle.std.specs.Prelude.{ℕ, ◌≡◌, Bool, true, false, List, [], ◌∷◌, ◌++◌, Option, Some, None}
+use Rattle.std.specs.Prelude.{◌≡◌, Bool, true, false, List, [], ◌∷◌, ◌++◌, Option, Some, None}
 use Rattle.awst.specs.declared.expression.Expr.{Expr}
 use Rattle.source_names.specs.declared.types.SourceType.{SourceType}
 use Rattle.meaning_rules.specs.declared.meaning.Typed.{Typed}

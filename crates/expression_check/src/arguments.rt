@@ -1,7 +1,6 @@
 //! The arguments of a call as they are gathered (Python reference, 6.3.4).
 
 ghost use Rattle.std.specs.Prelude.{◌≡◌, [], ◌∷◌, ◌++◌, ◌||◌, ◌&&◌, IfOk, OnOk, option_copied, true};
-ghost use Rattle.source_names.specs.Source as source;
 ghost use Rattle.call_rules.specs.Callees as callees;
 ghost use Rattle.call_rules.specs.Calls as spec;
 ghost use Rattle.expression_check.specs.Bindings.{complete_with, known_with};
@@ -11,7 +10,7 @@ use call_rules::{Callee, Known, Slot, Used, applied};
 use meaning_rules::Meaning;
 use path_rules::Notes;
 use puya_base::{List, Memory, Place};
-use py_grammar::{Arg, Tree, Word};
+use py_grammar::Word;
 use source_names::Signature;
 use std::alloc::Global;
 
@@ -36,26 +35,6 @@ pub(crate) fn none_bound(alloc: Global) -> Bound
             numbers: List::new(alloc),
             keyword: false,
         },
-    }
-}
-
-/// The keyword of an argument, if it has one.
-pub(crate) fn key_of(arg: &Arg) -> Option<&Word>
-    ensures { option_copied result ≡ (source.arg_of arg.now).key }
-{
-    match arg {
-        Arg::Keyed(word, _) => Some(word),
-        Arg::Plain(_) => None,
-    }
-}
-
-/// The value of an argument.
-pub(crate) fn value_of(arg: &Arg) -> &Tree
-    ensures { source.tree_of result.now ≡ (source.arg_of arg.now).value }
-{
-    match arg {
-        Arg::Keyed(_, tree) => tree,
-        Arg::Plain(tree) => tree,
     }
 }
 

@@ -1,6 +1,6 @@
 //! Expressions (Python reference, chapter 6): what each means, from the meanings of its parts; the rules that it breaks are noted.
 
-ghost use Rattle.std.specs.Prelude.{◌≡◌, ◌++◌, not, map, option_map, IfOk, OnOk, if◌then◌else◌};
+ghost use Rattle.std.specs.Prelude.{◌≡◌, ◌++◌, not, map, option_copied, option_map, IfOk, OnOk, if◌then◌else◌};
 ghost use Rattle.source_names.specs.Literals as literals;
 ghost use Rattle.source_names.specs.Source as source;
 ghost use Rattle.meaning_rules.specs.Betweens.{between_of};
@@ -12,7 +12,7 @@ ghost use Rattle.expression_check.specs.Bindings.{complete_with, known_with, end
 ghost use Rattle.expression_check.specs.Expressions as spec;
 ghost use Rattle.expression_check.specs.Sights.{seen_by, when_known};
 
-use crate::arguments::{Bound, applied_when, bind, key_of, none_bound, value_of};
+use crate::arguments::{Bound, applied_when, bind, none_bound};
 use crate::contexts::{context, freely, part_context, value_in};
 use crate::named::{judge_name, member_says_of};
 use crate::operators::{binary_form, compare_form};
@@ -284,12 +284,16 @@ pub(crate) fn judge_listed(
     ensures told { OnOk result (into.new ≡ into.old ++ (spec.judge (seen_by view.now) context.now (source.listed_at place (map source.tree_of items.now) comma)).notes) }
     ensures meaning { IfOk result (λ m. m ≡ (spec.judge (seen_by view.now) context.now (source.listed_at place (map source.tree_of items.now) comma)).meaning) }
 {
-    if comma {
-        return judge_tuple(view, into, context, place, items);
-    }
     match items {
-        [only] => judge(view, into, context, only),
-        _ => judge_tuple(view, into, context, place, items),
+        [] => judge_tuple(view, into, context, place, items),
+        [only] => {
+            if comma {
+                judge_tuple(view, into, context, place, items)
+            } else {
+                judge(view, into, context, only)
+            }
+        }
+        [_, _, ..] => judge_tuple(view, into, context, place, items),
     }
 }
 
@@ -465,14 +469,35 @@ fn judge_argument(
     ensures known { IfOk result (λ b. b.known.items ≡ known_with bound.known.items (given_at (seen_by view.now) (callees.meant view.now.sight.now.functions callee) i bound.used (source.arg_of arg.now)).known) }
     ensures used { IfOk result (λ b. b.used ≡ used_at (callees.meant view.now.sight.now.functions callee) i bound.used (source.arg_of arg.now)) }
 {
+    match arg {
+        Arg::Keyed(word, tree) => judge_given(view, into, callee, i, bound, Some(word), tree),
+        Arg::Plain(tree) => judge_given(view, into, callee, i, bound, None, tree),
+    }
+}
+
+#[cycle(judge)]
+fn judge_given(
+    view: &View<'_>,
+    into: &mut Notes,
+    callee: Callee,
+    i: usize,
+    bound: Bound,
+    key: Option<&Word>,
+    tree: &Tree,
+) -> Result<Bound, Memory>
+    ensures told { let a : source.OneArg = record { key = option_copied key.entry; value = source.tree_of tree.now } in OnOk result (into.new ≡ into.old ++ (given_at (seen_by view.now) (callees.meant view.now.sight.now.functions callee) i bound.used a).notes) }
+    ensures complete { let a : source.OneArg = record { key = option_copied key.entry; value = source.tree_of tree.now } in IfOk result (λ b. b.complete ≡ complete_with bound.complete (given_at (seen_by view.now) (callees.meant view.now.sight.now.functions callee) i bound.used a).known) }
+    ensures known { let a : source.OneArg = record { key = option_copied key.entry; value = source.tree_of tree.now } in IfOk result (λ b. b.known.items ≡ known_with bound.known.items (given_at (seen_by view.now) (callees.meant view.now.sight.now.functions callee) i bound.used a).known) }
+    ensures used { let a : source.OneArg = record { key = option_copied key.entry; value = source.tree_of tree.now } in IfOk result (λ b. b.used ≡ used_at (callees.meant view.now.sight.now.functions callee) i bound.used a) }
+{
     let functions = &view.sight.functions;
-    let place = place_of(value_of(arg));
-    let slot = slot_for(functions, callee, i, &bound.used, key_of(arg), place);
+    let place = place_of(tree);
+    let slot = slot_for(functions, callee, i, &bound.used, key, place);
     tell_slot(into, slot)?;
     let context = context(true, slot_hope(view.alloc, functions, callee, slot)?);
-    let meaning = judge(view, into, &context, value_of(arg))?;
+    let meaning = judge(view, into, &context, tree)?;
     let argument = given(view.alloc, into, functions, callee, slot, place, meaning)?;
-    bind(view.alloc, bound, slot, key_of(arg), argument)
+    bind(view.alloc, bound, slot, key, argument)
 }
 
 #[cycle(judge)]

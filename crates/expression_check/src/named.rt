@@ -15,7 +15,7 @@ use meaning_rules::{
     value,
 };
 use path_rules::Notes;
-use puya_base::{List, Memory, Place};
+use puya_base::{List, Memory, Place, Refusal};
 use py_grammar::Word;
 use source_names::{Constant, Thing, member_of, module_name};
 use std::alloc::Global;
@@ -46,6 +46,22 @@ fn thing_says(
     }
 }
 
+/// What stands for this means, and the rules that were broken on the way.
+fn found_says(
+    alloc: Global,
+    into: &mut Notes,
+    constants: &List<Constant>,
+    place: Place,
+    told: &[Refusal],
+    thing: Thing,
+) -> Result<Meaning, Memory>
+    ensures told { OnOk result (into.new ≡ into.old ++ (spec.found_says constants.now place (record { thing = thing; faults = told.now })).notes) }
+    ensures meaning { IfOk result (λ m. m ≡ (spec.found_says constants.now place (record { thing = thing; faults = told.now })).meaning) }
+{
+    note_all(into, told)?;
+    thing_says(alloc, constants, place, thing)
+}
+
 fn module_says(
     alloc: Global,
     into: &mut Notes,
@@ -57,8 +73,14 @@ fn module_says(
 {
     let mut told = List::new(alloc);
     let thing = module_name(&mut told, &sight.names, word)?;
-    note_all(into, told.as_slice())?;
-    thing_says(alloc, &sight.constants, word.place, thing)
+    found_says(
+        alloc,
+        into,
+        &sight.constants,
+        word.place,
+        told.as_slice(),
+        thing,
+    )
 }
 
 fn is_myself(sight: &Sight, word: &Word) -> bool
@@ -134,8 +156,7 @@ fn found_member(
 {
     let mut told = List::new(alloc);
     let found = member_of(&mut told, &sight.methods, thing, word)?;
-    note_all(into, told.as_slice())?;
-    thing_says(alloc, &sight.constants, place, found)
+    found_says(alloc, into, &sight.constants, place, told.as_slice(), found)
 }
 
 fn thing_member(

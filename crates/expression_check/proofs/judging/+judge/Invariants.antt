@@ -50,13 +50,16 @@ abbrev pub decreases-judge_slice : goal.decreases-judge_slice
 decreases-judge_slice l = 8 * max (tree_depth l.of.now) (max (end_depth l.start.now) (end_depth l.stop.now)) + 4
 
 abbrev pub decreases-judge_argument : goal.decreases-judge_argument
-decreases-judge_argument l = 8 * arg_depth l.arg.now + 2
+decreases-judge_argument l = 8 * arg_depth l.arg.now + 3
+
+abbrev pub decreases-judge_given : goal.decreases-judge_given
+decreases-judge_given l = 8 * tree_depth l.tree.now + 2
 
 abbrev pub decreases-judge_arguments : goal.decreases-judge_arguments
-decreases-judge_arguments l = 8 * args_depth l.args.now + 3
+decreases-judge_arguments l = 8 * args_depth l.args.now + 4
 
 abbrev pub decreases-judge_call : goal.decreases-judge_call
-decreases-judge_call l = 8 * max (tree_depth l.of.now) (args_depth l.args.now) + 4
+decreases-judge_call l = 8 * max (tree_depth l.of.now) (args_depth l.args.now) + 5
 
 abbrev pub decreases-judge_binary : goal.decreases-judge_binary
 decreases-judge_binary l = 8 * max (tree_depth l.a.now) (tree_depth l.b.now) + 3

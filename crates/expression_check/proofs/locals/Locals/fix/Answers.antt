@@ -9,15 +9,16 @@ use Rattle.expression_check.proofs.locals.Locals.fix.Goals.{in-Fixed+in-Some+in-
 pub invariant_of-self-then-is_unseen-4 : goal.invariant_of-self-then-is_unseen-4
 invariant_of-self-then-is_unseen-4 c =
     let ls = c.self.inside.list.items in
-    let is = set_is_fixed ls c.args.number c.args.ty c.index_mut.result.now c.index.result.now (omega (arith, c.if-at-len.true, c.len.ensures)) c.index_mut.ensures.value c.index.ensures (sym c.is_unseen.ensures ∙ c.if-is_unseen.true) in
-    ( (λ n. c.self.invariant.0 n ∙ sym (number_kept ls c.args.number c.args.ty n) ∙ ap (local_from 0 n) (sym is)),
-      (λ n. c.self.invariant.1 n ∙ sym (names_kept ls c.args.number c.args.ty n) ∙ ap (λ xs. names_variable (local_names xs) n) (sym is)) )
+    let is = set_is_fixed ls c.args.number c.args.ty c.index_mut.result.now c.index.result.now (omega (arith, c.if-at-len.true, c.len.ensures)) c.index_mut.ensures.value c.index.ensures (sym c.is_unseen.ensures ∙ c.if-is_unseen.true) in (
+      (λ n. c.self.invariant.0 n ∙ sym (number_kept ls c.args.number c.args.ty n) ∙ ap (local_from 0 n) (sym is)),
+      (λ n. c.self.invariant.1 n ∙ sym (names_kept ls c.args.number c.args.ty n) ∙ ap (λ xs. names_variable (local_names xs) n) (sym is)),
+    )
 
 -- src/locals.rt:94:5
 pub returns-then-is_unseen : goal.returns-then-is_unseen
 returns-then-is_unseen c =
     let is = set_is_fixed c.self.inside.list.items c.args.number c.args.ty c.index_mut.result.now c.index.result.now (omega (arith, c.if-at-len.true, c.len.ensures)) c.index_mut.ensures.value c.index.ensures (sym c.is_unseen.ensures ∙ c.if-is_unseen.true)
-             ∙ ap (λ xs. fixed xs c.args.number c.args.ty) c.self.view_is in
+    ∙ ap (λ xs. fixed xs c.args.number c.args.ty) c.self.view_is in
     elim c.match-index_mut.branch [ in-Fixed+in-Some+in-Tuple-1 w ↦ w.self-is ∙ is | in-Fixed+in-Some+in-Scalar-1 w ↦ w.self-is ∙ is | in-Fixed+in-None-1 w ↦ w.self-is ∙ is | in-Unseen-1 w ↦ w.self-is ∙ is ]
 
 -- src/locals.rt:94:5
