@@ -1,7 +1,8 @@
 -- The first of the rules that are told, and of those that functions break on their paths.
-use Rattle.std.proofs.Common.{◌≡◌, ℕ, zero, suc, ◌<◌, ◌⊎◌, inl, inr, List, [], ◌∷◌, ◌++◌, Option, Some, None, length, refl, sym, subst, arith}
+use Rattle.std.proofs.Common.{◌≡◌, ℕ, zero, suc, ◌-◌, ◌<◌, ◌≤◌, ◌⊎◌, inl, inr, List, [], ◌∷◌, ◌++◌, Option, Some, None, length, take, drop, get_or, refl, sym, ap, ◌∙◌, subst, arith}
 use Rattle.std.specs.Prelude.{Contains, slice_get}
 use Rattle.std.specs.List.{slice_index_or}
+use Rattle.std.proofs.lemmas.List.{take_all}
 use Rattle.std.proofs.lemmas.List.Elements.{Contains-append_cases, Contains-append_left, Contains-append_right}
 use Rattle.puya_base.specs.declared.source.Refusal.{Refusal}
 use Rattle.path_rules.specs.Order.{earlier_refusal, precedes}
@@ -45,6 +46,13 @@ first_told P a (x ∷ rs) h =
     (first_told (λ r. P r ⊎ Contains (x ∷ []) r) (earlier_refusal a (Some x)) rs
     (least_either ComesFirst precedes refusal_test P (Contains (x ∷ [])) a (Some x) h (single x)))
 
+-- the first of some that are told, before those behind it
+pub told_first : (rs : List Refusal) (d : Refusal) (a b all : Option Refusal) → 1 ≤ length rs → b ≡ earlier_refusal a (Some (get_or rs 0 d))
+    → first_in a rs ≡ all → first_in b (take (length rs - 1) (drop 1 rs)) ≡ all
+told_first [] d a b all low e h = absurd (omega (arith, low))
+told_first (r ∷ rs) d a b all low e h =
+    ap (λ z. first_in b z) (take_all (length (r ∷ rs) - 1) rs (omega arith)) ∙ ap (λ z. first_in z rs) e ∙ h
+
 -- ---- those that functions break on their paths
 
 itself_first : (a : Option Refusal) → IsFirst (λ r. a ≡ Some r) a
@@ -52,20 +60,20 @@ itself_first None = λ r e. let f : None ≡ Some r = e in cc
 itself_first (Some q) = (refl, λ b e. let f : q ≡ b = cc in subst (λ z. ComesFirst q z) f (comes_itself q))
 
 none_broken : (r : Refusal) → BreaksSome [] r → ⊥
-none_broken r b = let e : None ≡ Some b.1 = b.2.0 in cc
+none_broken r b = let e : None ≡ Some b.1 = b.2 in cc
 
 first_some : (p : Placed) (ps : List Placed) (r : Refusal) → BreaksOnPaths p r → BreaksSome (p ∷ ps) r
 first_some p ps r h = (0, p, refl, h)
 
 later_some : (p : Placed) (ps : List Placed) (r : Refusal) → BreaksSome ps r → BreaksSome (p ∷ ps) r
-later_some p ps r b = (suc b.0, b.1, b.2.0, b.2.1)
+later_some p ps r b = (suc b.0, b.1, b.2, b.3)
 
 some_at : (p : Placed) (ps : List Placed) (r : Refusal) (i : ℕ) (q : Placed) → slice_get (p ∷ ps) i ≡ Some q → BreaksOnPaths q r → BreaksOnPaths p r ⊎ BreaksSome ps r
 some_at p ps r zero q e h = let f : q ≡ p = cc in inl (subst (λ z. BreaksOnPaths z r) f h)
 some_at p ps r (suc i) q e h = inr (i, q, e, h)
 
 some_cases : (p : Placed) (ps : List Placed) (r : Refusal) → BreaksSome (p ∷ ps) r → BreaksOnPaths p r ⊎ BreaksSome ps r
-some_cases p ps r b = some_at p ps r b.0 b.1 b.2.0 b.2.1
+some_cases p ps r b = some_at p ps r b.0 b.1 b.2 b.3
 
 some_left : (ps qs : List Placed) (r : Refusal) → BreaksSome ps r → BreaksSome (ps ++ qs) r
 some_left [] qs r b = absurd (none_broken r b)
