@@ -4,11 +4,14 @@ use Rattle.std.specs.Prelude.{Contains, slice_get}
 use Rattle.std.specs.List.{slice_index_or}
 use Rattle.std.proofs.lemmas.List.{take_all}
 use Rattle.std.proofs.lemmas.List.Elements.{Contains-append_cases, Contains-append_left, Contains-append_right}
+use Rattle.puya_base.specs.declared.source.Place.{Place}
 use Rattle.puya_base.specs.declared.source.Refusal.{Refusal}
+use Rattle.path_rules.specs.declared.note.Note.{Note}
 use Rattle.path_rules.specs.Order.{earlier_refusal, precedes}
-use Rattle.path_rules.specs.Rules.{ComesFirst, IsFirst}
+use Rattle.path_rules.specs.Rules.{ComesFirst, IsBroken, IsFirst}
 use Rattle.path_rules.proofs.Firsts.{least_either, least_iff}
 use Rattle.path_rules.proofs.RefusalOrder.{comes_itself, refusal_test}
+use Rattle.type_check.specs.Functions.{end_of, notes_of}
 use Rattle.type_check.specs.Firsts.{BreaksSome, IsFirstOf, first_in}
 use Rattle.type_check.specs.Whole.{BreaksOnPaths, Placed}
 
@@ -103,6 +106,14 @@ first_of_one a b p h =
     (λ r k. elim k [ inl e ↦ inl e | inr c ↦ elim (some_cases p [] r c) [ inl d ↦ inr d | inr d ↦ absurd (none_broken r d) ] ])
     (earlier_refusal a b)
     (least_either ComesFirst precedes refusal_test (λ r. a ≡ Some r) (BreaksOnPaths p) a b (itself_first a) h)
+
+-- a function that has these notes and ends there
+pub first_placed : (a b c : Option Refusal) (p : Placed) (notes : List Note) (end : Option Place) → notes ≡ notes_of p.scope p.inside p.signature p.function
+    → end ≡ end_of p.signature p.function → IsFirst (IsBroken notes end) b → c ≡ earlier_refusal a b → IsFirstOf a (p ∷ []) c
+first_placed a b c p notes end d e h k =
+    let broken : IsFirst (BreaksOnPaths p) b =
+        subst (λ o. IsFirst (IsBroken (notes_of p.scope p.inside p.signature p.function) o) b) e (subst (λ ns. IsFirst (IsBroken ns end) b) d h) in
+    subst (λ z. IsFirstOf a (p ∷ []) z) (sym k) (first_of_one a b p broken)
 
 -- some functions and then others
 same_some : (b : Option Refusal) (r s : Refusal) → b ≡ Some r → b ≡ Some s → r ≡ s

@@ -1,3 +1,4 @@
 mod Behind
 mod FirstOnes
 mod Params
+mod Lines
