@@ -2,3 +2,4 @@ mod Behind
 mod FirstOnes
 mod Params
 mod Lines
+mod Modules
