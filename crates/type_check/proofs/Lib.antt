@@ -3,3 +3,4 @@ mod FirstOnes
 mod Params
 mod Lines
 mod Modules
+mod Calling

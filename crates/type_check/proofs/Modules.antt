@@ -1,5 +1,5 @@
 -- A module's functions with what they see and its contracts, as the rules have them.
-use Rattle.std.proofs.Common.{◌≡◌, ℕ, suc, ◌-◌, ◌≤◌, ◌⊎◌, inl, inr, Bool, true, false, List, [], ◌∷◌, ◌++◌, map, Option, Some, None, length, take, drop, get_or, refl, sym, ap, ◌∙◌, subst, append_assoc, append-nil}
+use Rattle.std.proofs.Common.{◌≡◌, ℕ, suc, ◌-◌, ◌<◌, ◌≤◌, ◌⊎◌, inl, inr, Bool, true, false, List, [], ◌∷◌, ◌++◌, map, Option, Some, None, length, take, drop, get_or, refl, sym, ap, ◌∙◌, subst, append_assoc, append-nil, arith}
 use Rattle.std.specs.Prelude.{Contains}
 use Rattle.puya_base.specs.declared.source.Refusal.{Refusal}
 use Rattle.awst.specs.declared.contract.Func.{Func as TypedFunc}
@@ -14,7 +14,7 @@ use Rattle.path_rules.proofs.Firsts.{least_iff}
 use Rattle.source_names.specs.declared.named.Entry.{Entry}
 use Rattle.source_headers.specs.Headers.{signature, divided}
 use Rattle.source_headers.specs.Modules.{entries, names_faults, signatures}
-use Rattle.source_headers.specs.Classes.{all_class_faults, class_signatures, classes, functions, has_myself, methods_from, no_contract}
+use Rattle.source_headers.specs.Classes.{all_class_faults, class_signatures, classes, first_from, functions, has_myself, is_approval, is_clear, methods_from, no_contract}
 use Rattle.meaning_rules.specs.declared.scope.Scope.{Scope}
 use Rattle.meaning_rules.specs.declared.scope.Method.{Method}
 use Rattle.expression_check.specs.declared.sight.Sight.{Sight}
@@ -23,7 +23,7 @@ use Rattle.type_check.specs.Firsts.{BreaksSome, IsFirstOf, first_in}
 use Rattle.type_check.specs.Placing as placing
 use Rattle.type_check.specs.Placing.{AtModule, contracts_behind, entered, functions_behind, in_class, in_classes, in_module, of_class}
 use Rattle.type_check.specs.Whole as spec
-use Rattle.type_check.specs.Whole.{IsBrokenIn, Placed, all_functions, both_contracts, class_functions, contracts, listed, listed_faults, module_functions, module_scope, on_paths, placed_faults, placed_in_class, placed_in_module, typed, typed_contract, typed_contracts, typed_functions}
+use Rattle.type_check.specs.Whole.{IsBrokenIn, Placed, all_functions, beyond, both_contracts, class_functions, contracts, listed, listed_faults, module_functions, module_scope, on_paths, placed_faults, placed_in_class, placed_in_module, typed, typed_contract, typed_contracts, typed_functions}
 use Rattle.type_check.proofs.Behind.{first_and_behind}
 use Rattle.type_check.proofs.FirstOnes.{first_of_more, first_told}
 use Rattle.type_check.proofs.Lines.{contract_found, contract_missing, faults-append, one_line, typed-append}
@@ -206,6 +206,15 @@ line_typed is es i c o told more one d e f k =
 pub line_untyped : (is : List Item) (es : List Entry) (i : Item) (o : Option Class) (told : Option (List Contract)) → o ≡ placing.contract_in es i → o ≡ None
     → told ≡ contracts_behind told (typed_contracts is (contracts es (classes (i ∷ []))))
 line_untyped is es i o told d e = behind_none told ∙ ap (λ cs. contracts_behind told (typed_contracts is cs)) (sym (contract_missing es i (sym d ∙ e)))
+
+pub contract_made : (n : ℕ) (c : Class) (fs : List TypedFunc) (name : List ℕ) (a b : Option ℕ) → name ≡ c.name.name
+    → a ≡ beyond n (first_from 0 is_approval (functions c.members)) → b ≡ beyond n (first_from 0 is_clear (functions c.members))
+    → (record { name = name; arc4 = false; funcs = fs; approval = a; clear = b; init = None }) ≡ placing.contract_of n c fs
+contract_made n c fs name a b d e f = rw (d, e, f) refl
+
+pub none_left : {A : Type 0} (xs : List A) → length xs < 1 → xs ≡ []
+none_left [] h = refl
+none_left (x ∷ xs) h = absurd (omega (arith, h))
 
 -- all lines
 pub all_typed : (v : Sight) (is : List Item) (all : Option (List Contract)) → seen v [] ≡ module_scope is → all ≡ typed_contracts is (contracts v.names (classes is))
