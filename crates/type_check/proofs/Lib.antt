@@ -4,3 +4,4 @@ mod Params
 mod Lines
 mod Modules
 mod Calling
+mod Answering
