@@ -1,5 +1,5 @@
 -- What is answered, from the first rule that is broken and from the typed contracts.
-use Rattle.std.proofs.Common.{◌≡◌, List, Option, Some, None, Result, subst}
+use Rattle.std.proofs.Common.{◌≡◌, List, Option, None, Result, subst}
 use Rattle.puya_base.specs.declared.source.Refusal.{Refusal}
 use Rattle.puya_base.specs.declared.source.SourceFault.{SourceFault}
 use Rattle.awst.specs.declared.contract.Contract.{Contract}

@@ -1,5 +1,5 @@
 -- The number of a class's function of a name, one member after the other, and the contract that is made of it.
-use Rattle.std.proofs.Common.{◌≡◌, ℕ, suc, ◌+◌, ◌-◌, ◌<◌, ◌≤◌, Bool, true, false, List, [], ◌∷◌, Option, Some, None, length, take, drop, get_or, refl, sym, ap, ◌∙◌, arith}
+use Rattle.std.proofs.Common.{◌≡◌, ℕ, suc, ◌+◌, ◌-◌, ◌≤◌, Bool, true, false, List, [], ◌∷◌, Option, Some, length, take, drop, get_or, refl, sym, ap, ◌∙◌, arith}
 use Rattle.py_grammar.specs.declared.module.Func.{Func}
 use Rattle.py_grammar.specs.declared.module.Member.{Member}
 use Rattle.py_grammar.specs.declared.module.Member.TheVariants as member

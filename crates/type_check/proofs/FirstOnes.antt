@@ -99,7 +99,7 @@ first_of_none a =
     least_iff ComesFirst (λ r. a ≡ Some r) (λ r. (a ≡ Some r) ⊎ BreaksSome [] r) (λ r e. inl e) (λ r k. elim k [ inl e ↦ e | inr b ↦ absurd (none_broken r b) ]) a (itself_first a)
 
 -- one function
-pub first_of_one : (a b : Option Refusal) (p : Placed) → IsFirst (BreaksOnPaths p) b → IsFirstOf a (p ∷ []) (earlier_refusal a b)
+first_of_one : (a b : Option Refusal) (p : Placed) → IsFirst (BreaksOnPaths p) b → IsFirstOf a (p ∷ []) (earlier_refusal a b)
 first_of_one a b p h =
     least_iff ComesFirst (λ r. (a ≡ Some r) ⊎ BreaksOnPaths p r) (λ r. (a ≡ Some r) ⊎ BreaksSome (p ∷ []) r)
     (λ r k. elim k [ inl e ↦ inl e | inr c ↦ inr (first_some p [] r c) ])
@@ -112,13 +112,10 @@ pub first_placed : (a b c : Option Refusal) (p : Placed) (notes : List Note) (en
     → end ≡ end_of p.signature p.function → IsFirst (IsBroken notes end) b → c ≡ earlier_refusal a b → IsFirstOf a (p ∷ []) c
 first_placed a b c p notes end d e h k =
     let broken : IsFirst (BreaksOnPaths p) b =
-        subst (λ o. IsFirst (IsBroken (notes_of p.scope p.inside p.signature p.function) o) b) e (subst (λ ns. IsFirst (IsBroken ns end) b) d h) in
+    subst (λ o. IsFirst (IsBroken (notes_of p.scope p.inside p.signature p.function) o) b) e (subst (λ ns. IsFirst (IsBroken ns end) b) d h) in
     subst (λ z. IsFirstOf a (p ∷ []) z) (sym k) (first_of_one a b p broken)
 
 -- some functions and then others
-same_some : (b : Option Refusal) (r s : Refusal) → b ≡ Some r → b ≡ Some s → r ≡ s
-same_some b r s e f = cc
-
 through_by : (a : Option Refusal) (ps qs : List Placed) (b c : Option Refusal) → IsFirstOf a ps b → IsFirstOf b qs c → IsFirstOf a (ps ++ qs) c
 through_by a ps qs None None h k = λ r j. elim j [
   | inl e ↦ h r (inl e)

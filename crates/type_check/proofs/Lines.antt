@@ -1,6 +1,5 @@
 -- Functions with what they see, one line of a module or one member of a class after the other.
-use Rattle.std.proofs.Common.{◌≡◌, ℕ, ◌-◌, ◌≤◌, Bool, true, false, List, [], ◌∷◌, ◌++◌, Option, Some, None, length, take, drop, get_or, refl, sym, ap, ◌∙◌, subst, append_assoc, append-nil}
-use Rattle.std.specs.Prelude.{if◌then◌else◌}
+use Rattle.std.proofs.Common.{◌≡◌, ◌-◌, ◌≤◌, Bool, true, false, List, [], ◌∷◌, ◌++◌, Option, Some, None, length, take, drop, get_or, refl, sym, ap, ◌∙◌, subst, append_assoc, append-nil}
 use Rattle.puya_base.specs.declared.source.Refusal.{Refusal}
 use Rattle.awst.specs.declared.contract.Func.{Func as TypedFunc}
 use Rattle.py_grammar.specs.declared.module.Func.{Func}
@@ -151,11 +150,7 @@ class_found : (es : List Entry) (d c : Class) (b : Bool) → is_contract (base_o
 class_found es d c true e h = let f : d ≡ c = cc in rw e (ap (λ z. z ∷ []) f)
 class_found es d c false e h = let f : None ≡ Some c = h in cc
 
-class_missing : (es : List Entry) (d : Class) (b : Bool) → is_contract (base_of es d) ≡ b → contract_when_one b d ≡ None → contracts es (d ∷ []) ≡ []
-class_missing es d true e h = let f : Some d ≡ None = h in cc
-class_missing es d false e h = rw e refl
-
-pub contract_found : (es : List Entry) (i : Item) (c : Class) → contract_in es i ≡ Some c → contracts es (classes (i ∷ [])) ≡ c ∷ []
+contract_found : (es : List Entry) (i : Item) (c : Class) → contract_in es i ≡ Some c → contracts es (classes (i ∷ [])) ≡ c ∷ []
 contract_found es (item.Class d) c h = class_found es d c (is_contract (base_of es d)) refl h
 contract_found es (item.Text p ls) c h = let f : None ≡ Some c = h in cc
 contract_found es (item.Import p ws a) c h = let f : None ≡ Some c = h in cc
@@ -163,15 +158,6 @@ contract_found es (item.From p ws ns) c h = let f : None ≡ Some c = h in cc
 contract_found es (item.FromParen p ws ns b) c h = let f : None ≡ Some c = h in cc
 contract_found es (item.Const w v) c h = let f : None ≡ Some c = h in cc
 contract_found es (item.Func d) c h = let f : None ≡ Some c = h in cc
-
-pub contract_missing : (es : List Entry) (i : Item) → contract_in es i ≡ None → contracts es (classes (i ∷ [])) ≡ []
-contract_missing es (item.Class d) h = class_missing es d (is_contract (base_of es d)) refl h
-contract_missing es (item.Text p ls) h = refl
-contract_missing es (item.Import p ws a) h = refl
-contract_missing es (item.From p ws ns) h = refl
-contract_missing es (item.FromParen p ws ns b) h = refl
-contract_missing es (item.Const w v) h = refl
-contract_missing es (item.Func d) h = refl
 
 -- the functions of a line that is a contract
 pub class_placed : (v : Sight) (i : Item) (c : Class) (o : Option Class) → o ≡ contract_in v.names i → o ≡ Some c

@@ -16,7 +16,6 @@ use Rattle.source_headers.specs.Headers.{signature, divided}
 use Rattle.source_headers.specs.Modules.{entries, names_faults, signatures}
 use Rattle.source_headers.specs.Classes.{all_class_faults, class_signatures, classes, first_from, functions, has_myself, is_approval, is_clear, methods_from, no_contract}
 use Rattle.meaning_rules.specs.declared.scope.Scope.{Scope}
-use Rattle.meaning_rules.specs.declared.scope.Method.{Method}
 use Rattle.expression_check.specs.declared.sight.Sight.{Sight}
 use Rattle.expression_check.specs.Sights.{method_of, seen}
 use Rattle.type_check.specs.Firsts.{BreaksSome, IsFirstOf, first_in}
@@ -26,7 +25,7 @@ use Rattle.type_check.specs.Whole as spec
 use Rattle.type_check.specs.Whole.{IsBrokenIn, Placed, all_functions, beyond, both_contracts, class_functions, contracts, listed, listed_faults, module_functions, module_scope, on_paths, placed_faults, placed_in_class, placed_in_module, typed, typed_contract, typed_contracts, typed_functions}
 use Rattle.type_check.proofs.Behind.{first_and_behind}
 use Rattle.type_check.proofs.FirstOnes.{first_of_more, first_told}
-use Rattle.type_check.proofs.Lines.{contract_found, contract_missing, faults-append, one_line, typed-append}
+use Rattle.type_check.proofs.Lines.{faults-append, one_line, typed-append}
 
 -- ---- what the functions of a module see
 
@@ -106,10 +105,10 @@ module _ (v : Sight) (is : List Item) (h : seen v [] ≡ module_scope is) where
       let a = in_module v (module_functions is) in
       let b = in_classes v (contracts v.names (classes is)) in
       let each : a ++ b ≡ all_functions is =
-          ap (λ z. z ++ b) (same_in_module v is h (module_functions is)) ∙ ap (λ z. placed_in_module is (module_functions is) ++ z) (same_contracts v is h) in
+      ap (λ z. z ++ b) (same_in_module v is h (module_functions is)) ∙ ap (λ z. placed_in_module is (module_functions is) ++ z) (same_contracts v is h) in
       let faults : all ≡ listed_faults is =
-          f ∙ ap (λ z. z ++ placed_faults b) (d ∙ ap (λ z. z ++ placed_faults a) t) ∙ listed_so is a b
-          ∙ ap (λ ps. names_faults is ++ (all_class_faults (entries is) (classes is) ++ (no_contract (entries is) (classes is) ++ placed_faults ps))) each in
+      f ∙ ap (λ z. z ++ placed_faults b) (d ∙ ap (λ z. z ++ placed_faults a) t) ∙ listed_so is a b
+      ∙ ap (λ ps. names_faults is ++ (all_class_faults (entries is) (classes is) ++ (no_contract (entries is) (classes is) ++ placed_faults ps))) each in
       let broken : IsFirstOf None (all_functions is) last = subst (λ ps. IsFirstOf None ps last) each (first_of_more None paths last a b e g) in
       subst (IsFirst (IsBrokenIn (record { items = is }))) (sym k)
       (least_iff ComesFirst (λ r. ((None ≡ Some r) ⊎ BreaksSome (all_functions is) r) ⊎ Contains all r) (IsBrokenIn (record { items = is }))
@@ -146,9 +145,9 @@ module _ (v : Sight) (is : List Item) (c : Class) (h : seen v [] ≡ module_scop
       let ours = placed_in_module is (module_functions is) in
       let theirs = placed_in_class is c (functions c.members) in
       let known : all ≡ typed_functions (ours ++ theirs) =
-          f ∙ ap (λ z. functions_behind z (typed_functions (in_class (entered v (functions c.members)) (functions c.members)))) (d ∙ ap typed_functions (same_in_module v is h (module_functions is)))
-          ∙ ap (λ ps. functions_behind (typed_functions ours) (typed_functions ps)) (same_in_class v is h c (functions c.members))
-          ∙ sym (typed-append ours theirs) in
+      f ∙ ap (λ z. functions_behind z (typed_functions (in_class (entered v (functions c.members)) (functions c.members)))) (d ∙ ap typed_functions (same_in_module v is h (module_functions is)))
+      ∙ ap (λ ps. functions_behind (typed_functions ours) (typed_functions ps)) (same_in_class v is h c (functions c.members))
+      ∙ sym (typed-append ours theirs) in
       k ∙ ap (placing.contract_when n c) known
       ∙ contract_by is c n (typed_functions (ours ++ theirs)) (e ∙ ap length (same_functions v is h) ∙ as_many (entries is) is)
 
@@ -184,28 +183,12 @@ line_behind is es xs x told more all at low d h =
     ap (λ z. contracts_behind z (typed_contracts is rest)) d
     ∙ behind-assoc told (typed_contracts is one) (typed_contracts is rest)
     ∙ ap (contracts_behind told)
-      (sym (ap (λ zs. typed_contracts is (contracts es (classes zs))) (first_and_behind xs x at low) ∙ ap (typed_contracts is) (one_line es x ys) ∙ contracts-append is one rest))
+    (sym (ap (λ zs. typed_contracts is (contracts es (classes zs))) (first_and_behind xs x at low) ∙ ap (typed_contracts is) (one_line es x ys) ∙ contracts-append is one rest))
     ∙ h
-
-with_one : (cs : Option (List Contract)) (c : Option Contract) → placing.with_contract cs c ≡ contracts_behind cs (both_contracts c (Some []))
-with_one None c = refl
-with_one (Some cs) None = refl
-with_one (Some cs) (Some c) = refl
 
 pub behind_none : (cs : Option (List Contract)) → cs ≡ contracts_behind cs (Some [])
 behind_none None = refl
 behind_none (Some cs) = ap Some (sym (append-nil cs))
-
-pub line_typed : (is : List Item) (es : List Entry) (i : Item) (c : Class) (o : Option Class) (told more : Option (List Contract)) (one : Option Contract)
-    → o ≡ placing.contract_in es i → o ≡ Some c → one ≡ typed_contract is c → more ≡ placing.with_contract told one
-    → more ≡ contracts_behind told (typed_contracts is (contracts es (classes (i ∷ []))))
-line_typed is es i c o told more one d e f k =
-    k ∙ with_one told one ∙ ap (λ z. contracts_behind told (both_contracts z (Some []))) f
-    ∙ ap (λ cs. contracts_behind told (typed_contracts is cs)) (sym (contract_found es i c (sym d ∙ e)))
-
-pub line_untyped : (is : List Item) (es : List Entry) (i : Item) (o : Option Class) (told : Option (List Contract)) → o ≡ placing.contract_in es i → o ≡ None
-    → told ≡ contracts_behind told (typed_contracts is (contracts es (classes (i ∷ []))))
-line_untyped is es i o told d e = behind_none told ∙ ap (λ cs. contracts_behind told (typed_contracts is cs)) (sym (contract_missing es i (sym d ∙ e)))
 
 pub contract_made : (n : ℕ) (c : Class) (fs : List TypedFunc) (name : List ℕ) (a b : Option ℕ) → name ≡ c.name.name
     → a ≡ beyond n (first_from 0 is_approval (functions c.members)) → b ≡ beyond n (first_from 0 is_clear (functions c.members))

@@ -1,4 +1,4 @@
-use Rattle.std.proofs.Common.{Some, sym, ◌∙◌}
+use Rattle.std.proofs.Common.{sym, ◌∙◌}
 use Rattle.std.proofs.lemmas.Result.{err_from_is_err_and}
 use Rattle.type_check.specs.Placing.{assembled, lacks}
 use Rattle.type_check.proofs.assembling.assembled.Goals as goal

@@ -1,5 +1,4 @@
 use Rattle.std.proofs.Common.{ap, ◌∙◌}
-use Rattle.std.specs.Prelude.{codes}
 use Rattle.source_headers.specs.Classes.{first_from, functions, is_approval, is_clear}
 use Rattle.type_check.specs.Whole.{beyond}
 use Rattle.type_check.proofs.Modules.{contract_made}

@@ -3,7 +3,7 @@ use Rattle.source_headers.specs.Classes.{classes}
 use Rattle.expression_check.specs.declared.sight.Sight.{Sight}
 use Rattle.expression_check.specs.Sights.{seen}
 use Rattle.type_check.specs.Placing.{AtModule, contracts_behind}
-use Rattle.type_check.specs.Whole.{contracts, module_scope, typed_contracts}
+use Rattle.type_check.specs.Whole.{contracts, typed_contracts}
 use Rattle.type_check.proofs.Modules.{all_typed, at_module, behind_none, line_behind, none_left}
 use Rattle.type_check.proofs.assembling.typed_contracts.Goals as goal
 

@@ -1,4 +1,4 @@
-use Rattle.std.proofs.Common.{◌≡◌, [], ◌∷◌, ap, ◌∙◌}
+use Rattle.std.proofs.Common.{[], ◌∷◌, ap, ◌∙◌}
 use Rattle.source_headers.specs.Classes.{functions}
 use Rattle.type_check.specs.Placing.{functions_behind, in_class}
 use Rattle.type_check.specs.Whole.{typed_functions}
@@ -11,7 +11,7 @@ loop-rest-preserved c = record {
       c.loop-rest.all c.in_ok-all.all _ c.first-item.is c.in-len1-up.len_at_least
       (c.in_ok-all.ensures.typed
       ∙ ap (λ ps. functions_behind c.loop-rest.all (typed_functions ps))
-        (class_alike c.loop-rest.sight c.args.sight.now (functions (c.first-item.result ∷ [])) c.loop-rest.invariant.sight))
+      (class_alike c.loop-rest.sight c.args.sight.now (functions (c.first-item.result ∷ [])) c.loop-rest.invariant.sight))
       c.loop-rest.invariant.typed;
   sight = c.in_ok-all.ensures.sight ∙ c.loop-rest.invariant.sight;
 }

@@ -2,7 +2,7 @@ use Rattle.std.proofs.Common.{◌≡◌, ◌++◌, [], ◌∷◌, ap, subst, sym
 use Rattle.source_headers.specs.Classes.{classes}
 use Rattle.expression_check.specs.declared.sight.Sight.{Sight}
 use Rattle.type_check.specs.Firsts.{IsFirstOf}
-use Rattle.type_check.specs.Placing.{AtModule, in_classes, outside}
+use Rattle.type_check.specs.Placing.{AtModule, in_classes}
 use Rattle.type_check.specs.Whole.{contracts, placed_faults}
 use Rattle.type_check.proofs.Lines.{classes_alike, first_more, line_placed, told_more}
 use Rattle.type_check.proofs.contracts.judge_contracts.Goals as goal
@@ -12,8 +12,8 @@ loop-rest-preserved c =
     let names = c.args.sight.now.names in
     let one = c.first-item.result in
     let same : in_classes c.loop-rest.sight (contracts c.loop-rest.sight.names (classes (one ∷ []))) ≡ in_classes c.args.sight.now (contracts names (classes (one ∷ []))) =
-        classes_alike c.loop-rest.sight c.args.sight.now (contracts c.loop-rest.sight.names (classes (one ∷ []))) c.loop-rest.invariant.outside
-        ∙ ap (λ (v : Sight). in_classes c.args.sight.now (contracts v.names (classes (one ∷ [])))) c.loop-rest.invariant.outside in
+    classes_alike c.loop-rest.sight c.args.sight.now (contracts c.loop-rest.sight.names (classes (one ∷ []))) c.loop-rest.invariant.outside
+    ∙ ap (λ (v : Sight). in_classes c.args.sight.now (contracts v.names (classes (one ∷ [])))) c.loop-rest.invariant.outside in
     record {
       told = told_more (λ is. in_classes c.args.sight.now (contracts names (classes is))) (line_placed c.args.sight.now names) c.loop-rest.rest.now one
           c.loop-rest.found.told c.judge_line.new.found.told _ c.first-item.is c.in-len1-up.len_at_least

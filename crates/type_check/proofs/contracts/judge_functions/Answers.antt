@@ -1,7 +1,6 @@
 use Rattle.type_check.specs.Firsts.{IsFirstOf}
 use Rattle.type_check.specs.Placing.{in_module}
 use Rattle.type_check.specs.Whole.{module_functions}
-use Rattle.type_check.proofs.FirstOnes.{first_of_none}
 use Rattle.type_check.proofs.Lines.{first_more, item_placed, told_more}
 use Rattle.type_check.proofs.contracts.judge_functions.Goals as goal
 

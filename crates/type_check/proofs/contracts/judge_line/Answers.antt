@@ -1,4 +1,4 @@
-use Rattle.std.proofs.Common.{Some, OnOk, ap, subst, sym}
+use Rattle.std.proofs.Common.{OnOk, ap, subst, sym}
 use Rattle.std.specs.Prelude.{option_copied}
 use Rattle.type_check.specs.Firsts.{IsFirstOf}
 use Rattle.type_check.proofs.Lines.{class_placed}

@@ -11,8 +11,8 @@ returns-clause-paths c =
     let at : c.is_some-sight.result ≡ has_myself (divided true c.args.func.now.params) = search rules in
     subst
     (λ (b : Bool).
-      OnOk c.judge_placed.result
-      (IsFirstOf c.args.found.now.paths
-      (placed (record { names = v.names; constants = v.constants; functions = v.functions; methods = v.methods; myself = b }) true c.args.func.now ∷ [])
-      c.judge_placed.new.found.paths))
+    OnOk c.judge_placed.result
+    (IsFirstOf c.args.found.now.paths
+    (placed (record { names = v.names; constants = v.constants; functions = v.functions; methods = v.methods; myself = b }) true c.args.func.now ∷ [])
+    c.judge_placed.new.found.paths))
     at c.judge_placed.ensures.paths

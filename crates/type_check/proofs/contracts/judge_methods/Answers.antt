@@ -1,4 +1,4 @@
-use Rattle.std.proofs.Common.{◌≡◌, ◌++◌, [], ◌∷◌, ap, subst, sym, ◌∙◌}
+use Rattle.std.proofs.Common.{◌≡◌, ◌++◌, [], ◌∷◌, ap, subst, ◌∙◌}
 use Rattle.source_headers.specs.Classes.{functions}
 use Rattle.type_check.specs.Firsts.{IsFirstOf}
 use Rattle.type_check.specs.Placing.{in_class}
@@ -9,7 +9,7 @@ use Rattle.type_check.proofs.contracts.judge_methods.Goals as goal
 pub loop-rest-preserved : goal.loop-rest-preserved
 loop-rest-preserved c =
     let same : in_class c.loop-rest.sight (functions (c.first-item.result ∷ [])) ≡ in_class c.args.sight.now (functions (c.first-item.result ∷ [])) =
-        class_alike c.loop-rest.sight c.args.sight.now (functions (c.first-item.result ∷ [])) c.loop-rest.invariant.sight in
+    class_alike c.loop-rest.sight c.args.sight.now (functions (c.first-item.result ∷ [])) c.loop-rest.invariant.sight in
     record {
       told = told_more (λ ms. in_class c.args.sight.now (functions ms)) (member_placed c.args.sight.now) c.loop-rest.rest.now c.first-item.result
           c.loop-rest.found.told c.judge_member.new.found.told _ c.first-item.is c.in-len1-up.len_at_least

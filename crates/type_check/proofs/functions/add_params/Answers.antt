@@ -1,4 +1,4 @@
-use Rattle.std.proofs.Common.{◌≡◌, [], ◌∷◌, ◌++◌, map, refl, ap, ◌∙◌}
+use Rattle.std.proofs.Common.{[], ◌∷◌, ◌++◌, map, refl, ap, ◌∙◌}
 use Rattle.type_check.specs.Functions as spec
 use Rattle.source_names.specs.Lookups.{with_name}
 use Rattle.statement_check.specs.Noting.{with_names}
