@@ -1,5 +1,5 @@
 -- The first of the rules that a module breaks, as the code gathers it.
-use Rattle.std.specs.Prelude.{ℕ, ◌≡◌, ◌⊎◌, List, [], ◌∷◌, ◌++◌, Option, Some, None, slice_get}
+use Rattle.std.specs.Prelude.{ℕ, ◌≡◌, ◌⊎◌, List, [], ◌∷◌, Option, Some, slice_get}
 use Rattle.puya_base.specs.declared.source.Refusal.{Refusal}
 use Rattle.path_rules.specs.Order.{earlier_refusal}
 use Rattle.path_rules.specs.Rules.{IsFirst}

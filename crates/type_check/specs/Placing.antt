@@ -1,5 +1,5 @@
 -- Functions with what they see, as the code goes through them.
-use Rattle.std.specs.Prelude.{ℕ, ◌≡◌, Bool, true, false, if◌then◌else◌, List, [], ◌∷◌, ◌++◌, map, length, take, Option, Some, None, Result, Ok, Err}
+use Rattle.std.specs.Prelude.{ℕ, ◌≡◌, Bool, true, false, if◌then◌else◌, List, [], ◌∷◌, ◌++◌, length, take, Option, Some, None, Result, Ok, Err}
 use Rattle.puya_base.specs.declared.source.Refusal.{Refusal}
 use Rattle.puya_base.specs.declared.source.SourceFault.{SourceFault}
 use Rattle.puya_base.specs.declared.source.SourceFault.TheVariants as fault
@@ -7,12 +7,14 @@ use Rattle.awst.specs.declared.contract.Func.{Func as TypedFunc}
 use Rattle.awst.specs.declared.contract.Contract.{Contract}
 use Rattle.py_grammar.specs.declared.module.Func.{Func}
 use Rattle.py_grammar.specs.declared.module.Class.{Class}
+use Rattle.py_grammar.specs.declared.module.Member.{Member}
+use Rattle.py_grammar.specs.declared.module.Member.TheVariants as member
 use Rattle.py_grammar.specs.declared.module.Item.{Item}
 use Rattle.py_grammar.specs.declared.module.Item.TheVariants as item
 use Rattle.source_names.specs.declared.named.Entry.{Entry}
 use Rattle.source_headers.specs.Headers.{signature, divided}
 use Rattle.source_headers.specs.Modules.{entries, names_faults}
-use Rattle.source_headers.specs.Classes.{all_class_faults, base_of, class_signatures, classes, first_from, functions, has_myself, is_approval, is_clear, methods_from, no_contract}
+use Rattle.source_headers.specs.Classes.{all_class_faults, base_of, class_signatures, classes, first_from, functions, has_myself, is_approval, is_clear, is_named, methods_from, no_contract}
 use Rattle.expression_check.specs.declared.sight.Sight.{Sight}
 use Rattle.expression_check.specs.Sights.{seen}
 use Rattle.type_check.specs.Whole.{Placed, beyond, is_contract, typed}
@@ -49,6 +51,10 @@ entered v fs = record { names = v.names; constants = v.constants; functions = v.
 abbrev pub left : Sight → ℕ → Sight
 left v n = record { names = v.names; constants = v.constants; functions = take n v.functions; methods = []; myself = false }
 
+-- what is seen behind a class
+abbrev pub outside : Sight → Sight
+outside v = record { names = v.names; constants = v.constants; functions = v.functions; methods = []; myself = false }
+
 -- outside classes
 pub record AtModule (v : Sight) : Type 0 where
   pub methods : v.methods ≡ []
@@ -83,6 +89,11 @@ functions_behind None fs = None
 functions_behind (Some fs) None = None
 functions_behind (Some fs) (Some gs) = Some (fs ++ gs)
 
+-- whether a member is a function of this name
+abbrev pub has_name : List ℕ → Member → Bool
+has_name n (member.Func f) = is_named n f
+has_name n _ = false
+
 abbrev pub contract_of : ℕ → Class → List TypedFunc → Contract
 contract_of n c fs = record { name = c.name.name; arc4 = false; funcs = fs; approval = beyond n (first_from 0 is_approval (functions c.members)); clear = beyond n (first_from 0 is_clear (functions c.members)); init = None }
 
@@ -94,6 +105,11 @@ abbrev pub with_contract : Option (List Contract) → Option Contract → Option
 with_contract None c = None
 with_contract (Some cs) None = None
 with_contract (Some cs) (Some c) = Some (cs ++ c ∷ [])
+
+abbrev pub contracts_behind : Option (List Contract) → Option (List Contract) → Option (List Contract)
+contracts_behind None cs = None
+contracts_behind (Some cs) None = None
+contracts_behind (Some cs) (Some ds) = Some (cs ++ ds)
 
 -- the typed contracts of a module; want of memory has no cause
 pub data IsAssembled (is : List Item) : Result (List Contract) SourceFault → Type 0 where

@@ -1,5 +1,5 @@
 -- The contracts of a module, and the rules that it breaks.
-use Rattle.std.specs.Prelude.{ℕ, ◌≡◌, ◌+◌, ◌⊎◌, Bool, true, false, if◌then◌else◌, List, [], ◌∷◌, ◌++◌, map, length, Option, Some, None, Result, Ok, Err, Contains, slice_get}
+use Rattle.std.specs.Prelude.{ℕ, ◌≡◌, ◌+◌, Bool, true, false, if◌then◌else◌, List, [], ◌∷◌, ◌++◌, map, length, Option, Some, None, Result, Ok, Err, Contains, slice_get}
 use Rattle.puya_base.specs.declared.source.Refusal.{Refusal}
 use Rattle.puya_base.specs.declared.source.SourceFault.{SourceFault}
 use Rattle.puya_base.specs.declared.source.SourceFault.TheVariants as fault
@@ -10,7 +10,6 @@ use Rattle.py_grammar.specs.declared.module.Class.{Class}
 use Rattle.py_grammar.specs.declared.module.Item.{Item}
 use Rattle.py_grammar.specs.declared.module.Item.TheVariants as item
 use Rattle.py_grammar.specs.declared.module.Module.{Module}
-use Rattle.path_rules.specs.declared.note.Note.{Note}
 use Rattle.path_rules.specs.Rules.{IsBroken, IsFirst}
 use Rattle.source_names.specs.declared.named.Entry.{Entry}
 use Rattle.source_names.specs.declared.signature.Signature.{Signature}

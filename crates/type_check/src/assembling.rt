@@ -1,6 +1,7 @@
 //! The typed contracts of a module that breaks no rule.
 
-ghost use Rattle.std.specs.Prelude.{◌≡◌, [], None, Some, IfOk, OnOk};
+ghost use Rattle.std.specs.Prelude.{◌≡◌, [], ◌∷◌, None, Some, true, IfOk, OnOk};
+ghost use Rattle.source_headers.specs.Bases.{number_behind};
 ghost use Rattle.source_headers.specs.Classes as classes;
 ghost use Rattle.source_headers.specs.Headers as headers;
 ghost use Rattle.type_check.specs.Functions as functions;
@@ -50,6 +51,24 @@ fn with_function(all: Option<Funcs>, one: Option<TypedFunc>) -> Result<Option<Fu
     Ok(Some(all))
 }
 
+/// A line of a module, where it is a function, behind functions, where all are known.
+fn with_item(
+    alloc: Global,
+    all: Option<Funcs>,
+    sight: &Sight,
+    item: &Item,
+) -> Result<Option<Funcs>, Memory>
+    ensures { IfOk result (λ fs. fs ≡ placing.functions_behind all (spec.typed_functions (placing.in_module sight.now (spec.module_functions (item.now ∷ []))))) }
+{
+    match item {
+        Item::Func(func) => {
+            let one = typed_placed(alloc, sight, false, func)?;
+            with_function(all, one)
+        }
+        _ => Ok(all),
+    }
+}
+
 /// The typed functions of a module, where each is known.
 fn typed_functions(alloc: Global, sight: &Sight, items: &[Item]) -> Result<Option<Funcs>, Memory>
     ensures { IfOk result (λ fs. fs ≡ spec.typed_functions (placing.in_module sight.now (spec.module_functions items.now))) }
@@ -57,10 +76,7 @@ fn typed_functions(alloc: Global, sight: &Sight, items: &[Item]) -> Result<Optio
     let mut all = Some(List::new(alloc));
     let mut rest = items;
     while let [first, behind @ ..] = rest {
-        if let Item::Func(func) = first {
-            let one = typed_placed(alloc, sight, false, func)?;
-            all = with_function(all, one)?;
-        }
+        all = with_item(alloc, all, sight, first)?;
         rest = behind;
     }
     Ok(all)
@@ -72,6 +88,25 @@ fn typed_method(alloc: Global, sight: &mut Sight, func: &Func) -> Result<Option<
 {
     sight.myself = myself(true, func.params.as_slice()).is_some();
     typed_placed(alloc, sight, true, func)
+}
+
+/// A member, where it is a function, behind functions, where all are known.
+fn with_member(
+    alloc: Global,
+    all: Option<Funcs>,
+    sight: &mut Sight,
+    member: &Member,
+) -> Result<Option<Funcs>, Memory>
+    ensures typed { IfOk result (λ fs. fs ≡ placing.functions_behind all (spec.typed_functions (placing.in_class sight.old (classes.functions (member.now ∷ []))))) }
+    ensures sight { OnOk result (placing.forgetful sight.new ≡ placing.forgetful sight.old) }
+{
+    match member {
+        Member::Func(func) => {
+            let one = typed_method(alloc, sight, func)?;
+            with_function(all, one)
+        }
+        _ => Ok(all),
+    }
 }
 
 /// Behind these the typed functions of a class, where each is known.
@@ -87,13 +122,29 @@ fn typed_methods(
     let mut all = before;
     let mut rest = members;
     while let [first, behind @ ..] = rest {
-        if let Member::Func(func) = first {
-            let one = typed_method(alloc, sight, func)?;
-            all = with_function(all, one)?;
-        }
+        all = with_member(alloc, all, sight, first)?;
         rest = behind;
     }
     Ok(all)
+}
+
+fn has_name(member: &Member, name: &str) -> bool
+    ensures { result ≡ placing.has_name name.now member.now }
+{
+    match member {
+        Member::Func(func) => func.name.name.as_str() == name,
+        _ => false,
+    }
+}
+
+/// The number behind that of a member, which counts where it is a function.
+fn number_behind(number: u32, member: &Member) -> Result<u32, Memory>
+    ensures { IfOk result (λ n. n ≡ number_behind number member.now) }
+{
+    match member {
+        Member::Func(_) => number.checked_add(1).ok_or(Memory),
+        _ => Ok(number),
+    }
 }
 
 /// The number of the first function of this name among the members, where the first function has this number.
@@ -103,12 +154,10 @@ fn first_named(first: u32, members: &[Member], name: &str) -> Result<Option<u32>
     let mut number = first;
     let mut rest = members;
     while let [member, behind @ ..] = rest {
-        if let Member::Func(func) = member {
-            if func.name.name.as_str() == name {
-                return Ok(Some(number));
-            }
-            number = number.checked_add(1).ok_or(Memory)?;
+        if has_name(member, name) {
+            return Ok(Some(number));
         }
+        number = number_behind(number, member)?;
         rest = behind;
     }
     Ok(None)
@@ -152,7 +201,7 @@ fn typed_contract(
     class: &Class,
 ) -> Result<Option<Contract>, Memory>
     ensures typed { seen sight.old [] ≡ spec.module_scope items.now → IfOk result (λ c. c ≡ spec.typed_contract items.now class.now) }
-    ensures sight { OnOk result (placing.AtModule sight.old → sight.new ≡ sight.old) }
+    ensures sight { OnOk result (sight.new ≡ placing.outside sight.old) }
 {
     let functions = sight.functions.len();
     let first = next_function(sight)?;
@@ -179,6 +228,26 @@ fn with_contract(
     Ok(Some(all))
 }
 
+/// A line, where it is a contract, behind contracts, where all are known.
+fn with_line(
+    alloc: Global,
+    all: Option<List<Contract>>,
+    sight: &mut Sight,
+    items: &[Item],
+    item: &Item,
+) -> Result<Option<List<Contract>>, Memory>
+    ensures typed { seen sight.old [] ≡ spec.module_scope items.now → IfOk result (λ cs. cs ≡ placing.contracts_behind all (spec.typed_contracts items.now (spec.contracts sight.old.names (classes.classes (item.now ∷ []))))) }
+    ensures sight { OnOk result (placing.AtModule sight.old → sight.new ≡ sight.old) }
+{
+    match contract_in(alloc, sight, item)? {
+        Some(class) => {
+            let one = typed_contract(alloc, sight, items, class)?;
+            with_contract(all, one)
+        }
+        None => Ok(all),
+    }
+}
+
 fn typed_contracts(
     alloc: Global,
     sight: &mut Sight,
@@ -189,10 +258,7 @@ fn typed_contracts(
     let mut all = Some(List::new(alloc));
     let mut rest = items;
     while let [first, behind @ ..] = rest {
-        if let Some(class) = contract_in(alloc, sight, first)? {
-            let one = typed_contract(alloc, sight, items, class)?;
-            all = with_contract(all, one)?;
-        }
+        all = with_line(alloc, all, sight, items, first)?;
         rest = behind;
     }
     Ok(all)

@@ -2,10 +2,8 @@
 
 ghost use Rattle.std.specs.Prelude.{◌≡◌, ◌++◌, [], ◌∷◌, IfOk, OnOk};
 ghost use Rattle.source_headers.specs.Classes as classes;
-ghost use Rattle.source_headers.specs.Headers as headers;
 ghost use Rattle.path_rules.specs.Rules.{IsFirst};
 ghost use Rattle.type_check.specs.Firsts.{IsFirstOf, first_in};
-ghost use Rattle.type_check.specs.Functions as functions;
 ghost use Rattle.type_check.specs.Placing as placing;
 ghost use Rattle.expression_check.specs.Sights.{seen};
 ghost use Rattle.type_check.specs.Whole as spec;
@@ -39,7 +37,7 @@ fn judge_placed(
     inside: bool,
     func: &Func,
 ) -> Result<(), Memory>
-    ensures told { OnOk result (found.new.told ≡ found.old.told ++ functions.body_faults (seen sight.now []) inside (headers.signature sight.now.names inside func.now) func.now) }
+    ensures told { OnOk result (found.new.told ≡ found.old.told ++ spec.placed_faults (placing.placed sight.now inside func.now ∷ [])) }
     ensures paths { OnOk result (IsFirstOf found.old.paths (placing.placed sight.now inside func.now ∷ []) found.new.paths) }
 {
     let signature = signature_of(alloc, &sight.names, inside, func)?;
@@ -51,6 +49,17 @@ fn judge_placed(
     let first = broken(alloc, &notes, end)?;
     found.paths = earlier(found.paths, first);
     Ok(())
+}
+
+/// Judges a line of a module, where it is a function.
+fn judge_item(alloc: Global, found: &mut Found, sight: &Sight, item: &Item) -> Result<(), Memory>
+    ensures told { OnOk result (found.new.told ≡ found.old.told ++ spec.placed_faults (placing.in_module sight.now (spec.module_functions (item.now ∷ [])))) }
+    ensures paths { OnOk result (IsFirstOf found.old.paths (placing.in_module sight.now (spec.module_functions (item.now ∷ []))) found.new.paths) }
+{
+    match item {
+        Item::Func(func) => judge_placed(alloc, found, sight, false, func),
+        _ => Ok(()),
+    }
 }
 
 /// Judges the functions of a module.
@@ -65,9 +74,7 @@ fn judge_functions(
 {
     let mut rest = items;
     while let [first, behind @ ..] = rest {
-        if let Item::Func(func) = first {
-            judge_placed(alloc, found, sight, false, func)?;
-        }
+        judge_item(alloc, found, sight, first)?;
         rest = behind;
     }
     Ok(())
@@ -88,6 +95,23 @@ fn judge_method(
     judge_placed(alloc, found, sight, true, func)
 }
 
+/// Judges a member of a class, where it is a function.
+fn judge_member(
+    alloc: Global,
+    found: &mut Found,
+    sight: &mut Sight,
+    member: &Member,
+) -> Result<(), Memory>
+    ensures told { OnOk result (found.new.told ≡ found.old.told ++ spec.placed_faults (placing.in_class sight.old (classes.functions (member.now ∷ [])))) }
+    ensures paths { OnOk result (IsFirstOf found.old.paths (placing.in_class sight.old (classes.functions (member.now ∷ []))) found.new.paths) }
+    ensures sight { OnOk result (placing.forgetful sight.new ≡ placing.forgetful sight.old) }
+{
+    match member {
+        Member::Func(func) => judge_method(alloc, found, sight, func),
+        _ => Ok(()),
+    }
+}
+
 /// Judges the functions of a class.
 fn judge_methods(
     alloc: Global,
@@ -101,9 +125,7 @@ fn judge_methods(
 {
     let mut rest = members;
     while let [first, behind @ ..] = rest {
-        if let Member::Func(func) = first {
-            judge_method(alloc, found, sight, func)?;
-        }
+        judge_member(alloc, found, sight, first)?;
         rest = behind;
     }
     Ok(())
@@ -117,13 +139,31 @@ fn judge_contract(
 ) -> Result<(), Memory>
     ensures told { OnOk result (found.new.told ≡ found.old.told ++ spec.placed_faults (placing.of_class sight.old class.now)) }
     ensures paths { OnOk result (IsFirstOf found.old.paths (placing.of_class sight.old class.now) found.new.paths) }
-    ensures sight { OnOk result (placing.AtModule sight.old → sight.new ≡ sight.old) }
+    ensures sight { OnOk result (sight.new ≡ placing.outside sight.old) }
 {
     let functions = sight.functions.len();
     enter_class(alloc, sight, class)?;
     judge_methods(alloc, found, sight, class.members.as_slice())?;
     leave_class(alloc, sight, functions);
     Ok(())
+}
+
+/// Judges a line of a module, where it is a contract.
+fn judge_line(
+    alloc: Global,
+    found: &mut Found,
+    sight: &mut Sight,
+    item: &Item,
+) -> Result<(), Memory>
+    ensures told { OnOk result (found.new.told ≡ found.old.told ++ spec.placed_faults (placing.in_classes sight.old (spec.contracts sight.old.names (classes.classes (item.now ∷ []))))) }
+    ensures paths { OnOk result (IsFirstOf found.old.paths (placing.in_classes sight.old (spec.contracts sight.old.names (classes.classes (item.now ∷ [])))) found.new.paths) }
+    ensures outside { OnOk result (placing.outside sight.new ≡ placing.outside sight.old) }
+    ensures sight { OnOk result (placing.AtModule sight.old → sight.new ≡ sight.old) }
+{
+    match contract_in(alloc, sight, item)? {
+        Some(class) => judge_contract(alloc, found, sight, class),
+        None => Ok(()),
+    }
 }
 
 /// Judges the contracts of a module.
@@ -139,9 +179,7 @@ fn judge_contracts(
 {
     let mut rest = items;
     while let [first, behind @ ..] = rest {
-        if let Some(class) = contract_in(alloc, sight, first)? {
-            judge_contract(alloc, found, sight, class)?;
-        }
+        judge_line(alloc, found, sight, first)?;
         rest = behind;
     }
     Ok(())
@@ -208,7 +246,7 @@ fn answer(
 /// Each function is looked at once, and once more for each contract, since a contract has the module's functions as its own. For one contract
 /// the time grows with the source and with the types of its expressions, but for the paths (`path_rules::broken`).
 pub fn check(alloc: Global, module: &Module) -> Result<List<Contract>, SourceFault>
-    ensures { Checks module.now result }
+    ensures { Checks «module».now result }
 {
     let items = module.items.as_slice();
     let mut told = List::new(alloc);

@@ -6,8 +6,6 @@ mod contracts;
 mod functions;
 mod order;
 mod scoping;
-#[cfg(test)]
-mod tests;
 mod types;
 
 pub use contracts::check;

@@ -1,6 +1,6 @@
 //! What the functions of a class see besides the module (Algorand Python guide, "Contracts").
 
-ghost use Rattle.std.specs.Prelude.{◌≡◌, length, IfOk, OnOk, option_copied};
+ghost use Rattle.std.specs.Prelude.{◌≡◌, [], ◌∷◌, length, IfOk, OnOk, option_copied};
 ghost use Rattle.source_headers.specs.Classes as classes;
 ghost use Rattle.type_check.specs.Placing as placing;
 
@@ -39,16 +39,27 @@ pub(crate) fn next_function(sight: &Sight) -> Result<u32, Memory>
     }
 }
 
+/// Adds the signature of a member, where it is a function.
+fn add_signature(alloc: Global, sight: &mut Sight, member: &Member) -> Result<(), Memory>
+    ensures { OnOk result (sight.new ≡ placing.with_signatures sight.old (classes.functions (member.now ∷ []))) }
+{
+    match member {
+        Member::Func(func) => {
+            let signature = signature_of(alloc, &sight.names, true, func)?;
+            sight.functions.push(signature)?;
+            Ok(())
+        }
+        _ => Ok(()),
+    }
+}
+
 /// Adds the signatures of a class's functions.
 fn add_signatures(alloc: Global, sight: &mut Sight, members: &[Member]) -> Result<(), Memory>
     ensures { OnOk result (sight.new ≡ placing.with_signatures sight.old (classes.functions members.now)) }
 {
     let mut rest = members;
     while let [first, behind @ ..] = rest {
-        if let Member::Func(func) = first {
-            let signature = signature_of(alloc, &sight.names, true, func)?;
-            sight.functions.push(signature)?;
-        }
+        add_signature(alloc, sight, first)?;
         rest = behind;
     }
     Ok(())

@@ -1,6 +1,5 @@
 //! What is answered on small modules, asked once; the table of sources is tried with the parser above this crate.
 
-use crate::check;
 use puya_base::{Blob, Boxed, List, Memory, Name, Place, Refusal, Rule, SourceFault};
 use py_grammar::{
     Arg, Block, Class, Exprs, Func, Import, Item, Literal, Member, Module, Param, Simple, Tree,
@@ -8,6 +7,7 @@ use py_grammar::{
 };
 use std::alloc::Global;
 use std::test::Fail;
+use type_check::check;
 
 fn at(line: u32) -> Place {
     Place { line, col: 1 }
