@@ -1,5 +1,5 @@
 -- What each form of a statement stands for.
-use Rattle.std.proofs.Common.{◌≡◌, ◌∙◌, List, map, ap, sym, Option}
+use Rattle.std.proofs.Common.{◌≡◌, ◌∙◌, List, map, ap, sym, Option, Some, None}
 use Rattle.std.specs.Prelude.{option_map, [], ◌∷◌}
 use Rattle.puya_base.specs.declared.source.Place.{Place}
 use Rattle.py_grammar.specs.declared.word.Word.{Word}
@@ -20,7 +20,8 @@ stmt-Simple l = ap stmt_of (sym (a_stmt_form.rolls-Simple l)) ∙ fold-roll-Stmt
 
 pub stmt-If : (p : Place) (e : Tree) (b : Block) (as_ : List Branch) (c : Option Block)
     → stmt_of (a_stmt_form.If p e b as_ c) ≡ if_else p (a_branch (tree_of e) (block_of b) (branches_of (map branch_of as_) (block_or_none (option_map block_of c))))
-stmt-If p e b as_ c = ap stmt_of (sym (a_stmt_form.rolls-If p e b as_ c)) ∙ fold-roll-Stmt Sts St OneBranch block_layer stmt_layer branch_layer (Stmt-F.If p e b as_ c)
+stmt-If p e b as_ None = ap stmt_of (sym (a_stmt_form.rolls-If p e b as_ None)) ∙ fold-roll-Stmt Sts St OneBranch block_layer stmt_layer branch_layer (Stmt-F.If p e b as_ None)
+stmt-If p e b as_ (Some c) = ap stmt_of (sym (a_stmt_form.rolls-If p e b as_ (Some c))) ∙ fold-roll-Stmt Sts St OneBranch block_layer stmt_layer branch_layer (Stmt-F.If p e b as_ (Some c))
 
 pub stmt-While : (p : Place) (e : Tree) (b : Block) → stmt_of (a_stmt_form.While p e b) ≡ while_do p (tree_of e) (block_of b)
 stmt-While p e b = ap stmt_of (sym (a_stmt_form.rolls-While p e b)) ∙ fold-roll-Stmt Sts St OneBranch block_layer stmt_layer branch_layer (Stmt-F.While p e b)

@@ -1,0 +1,25 @@
+-- Values of variables, and of other places that have a type, behind the notes on them.
+use Rattle.std.proofs.Common.{◌≡◌, List, [], ◌∷◌, ◌++◌, Option, Some, None, refl, sym, ap, ◌∙◌, append_assoc, append-nil}
+use Rattle.path_rules.specs.declared.note.Note.{Note}
+use Rattle.source_names.specs.declared.types.SourceType.{SourceType}
+use Rattle.meaning_rules.specs.declared.meaning.Typed.{Typed}
+use Rattle.meaning_rules.specs.declared.scope.Status.{Status}
+use Rattle.meaning_rules.specs.declared.scope.Status.TheVariants as status
+use Rattle.meaning_rules.specs.Meanings.{Valued, fits_when, required}
+use Rattle.statement_check.specs.Parting.{fits_status}
+use Rattle.statement_check.specs.Statements.{for_status}
+
+-- four lists, one after another, from two pairs
+pub two_and_two : {A : Type 0} (into a b tail mid all : List A) → mid ≡ into ++ a → all ≡ mid ++ (b ++ tail) → all ≡ into ++ ((a ++ b) ++ tail)
+two_and_two into a b tail mid all e f =
+    f ∙ ap (λ z. z ++ (b ++ tail)) e ∙ append_assoc into a (b ++ tail) ∙ ap (λ z. into ++ z) (sym (append_assoc a b tail))
+
+status_notes : (st : Status) (v : Valued) → (for_status st v).notes ≡ v.notes ++ (fits_status st v.typed).notes
+status_notes status.Unseen v = sym (append-nil v.notes)
+status_notes (status.Fixed t) v = refl
+
+pub status_told : (st : Status) (v : Valued) (t : Option Typed) (into mid all tail : List Note) → t ≡ v.typed → mid ≡ into ++ v.notes → all ≡ mid ++ ((fits_status st t).notes ++ tail)
+    → all ≡ into ++ ((for_status st v).notes ++ tail)
+status_told st v t into mid all tail d e f =
+    two_and_two into v.notes (fits_status st v.typed).notes tail mid all e (f ∙ ap (λ z. mid ++ ((fits_status st z).notes ++ tail)) d)
+    ∙ ap (λ z. into ++ (z ++ tail)) (sym (status_notes st v))
