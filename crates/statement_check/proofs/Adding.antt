@@ -1,6 +1,7 @@
 -- Targets of statements one after another, as they are added to the variables of a function.
 use Rattle.std.proofs.Common.{◌≡◌, ℕ, ◌+◌, ◌-◌, ◌<◌, ◌≤◌, List, [], ◌∷◌, ◌++◌, Bool, Option, Some, None, length, take, drop, get_or, map, refl, sym, ap, ◌∙◌, append_assoc, append-nil}
-use Rattle.std.specs.Prelude.{option_map}
+use Rattle.std.specs.Prelude.{option_map, option_copied, MatchOption}
+use Rattle.std.proofs.Common.{Bor}
 use Rattle.std.proofs.lemmas.List.{at_drop_more, at_drop_all}
 use Rattle.puya_base.specs.declared.source.Place.{Place}
 use Rattle.puya_base.specs.declared.source.Refusal.{Refusal}
@@ -18,7 +19,7 @@ use Rattle.statement_check.specs.Lines.{OneBranch, Sts, block_of, block_or_none,
 use Rattle.statement_check.specs.Noting.{arm_targets, noted, optional_block, target_local}
 use Rattle.statement_check.specs.Targets.{all_targets, branch_targets, first_ones, names_in, one_name, target_name, targets}
 use Rattle.statement_check.proofs.Behind.{first_and_behind}
-use Rattle.statement_check.proofs.Blocks.{stmt-If, stmt-For}
+use Rattle.statement_check.proofs.Blocks.{branch-is, stmt-If, stmt-For}
 use Rattle.statement_check.proofs.Seeing.{locals_then, noted-append, told_then}
 
 -- some targets, and those behind them
@@ -103,3 +104,10 @@ if_targets p e b bs c =
 
 pub for_targets : (p : Place) (w : Word) (e : Tree) (b : Block) → targets (stmt_of (a_stmt_form.For p w e b)) ≡ (w ∷ []) ++ all_targets (block_of b)
 for_targets p w e b = ap targets (stmt-For p w e b)
+
+pub copied_is : {A : Type 0} (r : Option (Bor A)) (o : Option A) → MatchOption r (o ≡ None) (λ (w : Bor A). o ≡ Some w.now) → option_copied r ≡ o
+copied_is None o h = sym h
+copied_is (Some w) o h = sym h
+
+pub branch_block : (b : Branch) → (branch_of b).block ≡ block_of b.block
+branch_block b = ap (λ (a : OneBranch). a.block) (branch-is b)

@@ -11,7 +11,7 @@ use Rattle.py_grammar.specs.declared.statement.Branch.{Branch, roll-Branch}
 use Rattle.py_grammar.specs.declared.statement.Block.{Block}
 use Rattle.py_grammar.specs.declared.statement.Block.TheVariants as block
 use Rattle.py_grammar.specs.declared.statement.Block.TheOpen.{Stmt-F, Branch-F, Block-F}
-use Rattle.py_grammar.specs.declared.statement.Block.TheFolds.{fold-roll-Stmt, fold-roll-Block}
+use Rattle.py_grammar.specs.declared.statement.Block.TheFolds.{fold-roll-Stmt, fold-roll-Block, fold_out-Branch}
 use Rattle.source_names.specs.Source.{tree_of}
 use Rattle.statement_check.specs.Lines.{St, Sts, OneBranch, line, if_else, while_do, for_in, a_branch, a_stmt, no_stmts, block_layer, block_of, block_or_none, branch_layer, branch_of, branches_of, line_of, stmt_layer, stmt_of, stmts_of}
 
@@ -34,3 +34,6 @@ block-Line l = ap block_of (sym (block.rolls-Line l)) ∙ fold-roll-Block Sts St
 
 pub block-Lines : (ss : List Stmt) → block_of (block.Lines ss) ≡ stmts_of ss
 block-Lines ss = ap block_of (sym (block.rolls-Lines ss)) ∙ fold-roll-Block Sts St OneBranch block_layer stmt_layer branch_layer (Block-F.Lines ss)
+
+pub branch-is : (b : Branch) → branch_of b ≡ record { test = tree_of b.test; block = block_of b.block }
+branch-is b = fold_out-Branch Sts St OneBranch block_layer stmt_layer branch_layer b
