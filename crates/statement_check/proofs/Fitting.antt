@@ -1,5 +1,5 @@
 -- Values of variables, and of other places that have a type, behind the notes on them.
-use Rattle.std.proofs.Common.{◌≡◌, List, [], ◌∷◌, ◌++◌, Option, Some, None, refl, sym, ap, ◌∙◌, append_assoc, append-nil}
+use Rattle.std.proofs.Common.{◌≡◌, List, [], ◌∷◌, ◌++◌, Option, Result, Ok, Err, OnOk, refl, sym, ap, ◌∙◌, append_assoc, append-nil}
 use Rattle.path_rules.specs.declared.note.Note.{Note}
 use Rattle.source_names.specs.declared.types.SourceType.{SourceType}
 use Rattle.meaning_rules.specs.declared.meaning.Typed.{Typed}
@@ -23,3 +23,7 @@ pub status_told : (st : Status) (v : Valued) (t : Option Typed) (into mid all ta
 status_told st v t into mid all tail d e f =
     two_and_two into v.notes (fits_status st v.typed).notes tail mid all e (f ∙ ap (λ z. mid ++ ((fits_status st z).notes ++ tail)) d)
     ∙ ap (λ z. into ++ (z ++ tail)) (sym (status_notes st v))
+
+pub on_ok : {T E P : Type 0} (r : Result T E) → P → OnOk r P
+on_ok (Ok x) p = p
+on_ok (Err e) p = tt
