@@ -9,6 +9,7 @@ use Rattle.path_rules.specs.declared.note.Note.{Note}
 use Rattle.path_rules.specs.declared.note.Note.TheVariants as note
 use Rattle.path_rules.specs.declared.note.NoteArm.{NoteArm}
 use Rattle.py_grammar.specs.declared.expression.Tree.{Tree}
+use Rattle.py_grammar.specs.declared.statement.Stmt.{Stmt}
 use Rattle.py_grammar.specs.declared.statement.Stmt.TheVariants as a_stmt_form
 use Rattle.py_grammar.specs.declared.statement.Branch.{Branch}
 use Rattle.py_grammar.specs.declared.statement.Block.{Block}
@@ -125,7 +126,7 @@ optional_is (Some b) = refl
 
 -- ---- an `if`
 
-module _ (s : Scope) (r : Option SourceType) (ls : List Local) (p : Place) (e : Tree) (b : Block) (bs : List Branch) (c : Option Block) where
+module _ (s : Scope) (r : Option SourceType) (ls : List Local) (p : Place) (e : Tree) (b : Block) (bs : List Branch) (c : Option Block) (t : Stmt) (is : t ≡ a_stmt_form.If p e b bs c) where
   abbrev first : OneBranch
   first = record { test = tree_of e; block = block_of b }
 
@@ -136,17 +137,17 @@ module _ (s : Scope) (r : Option SourceType) (ls : List Local) (p : Place) (e : 
   last = block_or_none (option_map block_of c)
 
   pub if_locals : (l m n : List Local) → l ≡ (checks s r ls (block_of b)).locals → m ≡ locals_behind s r l (map branch_of bs) → n ≡ (checks s r m (optional_block c)).locals
-      → n ≡ (check s r ls (stmt_of (a_stmt_form.If p e b bs c))).locals
+      → n ≡ (check s r ls (stmt_of t)).locals
   if_locals l m n f g h =
       h
       ∙ ap (λ (z : Sts). (checks s r m z).locals) (optional_is c)
       ∙ ap (λ (z : List Local). (checks s r z last).locals) (g ∙ ap (λ (z : List Local). locals_behind s r z (map branch_of bs)) f)
       ∙ locals_are s r ls whole last
-      ∙ sym (ap (λ z. (check s r ls z).locals) (stmt-If p e b bs c))
+      ∙ sym (ap (λ z. (check s r ls z).locals) (ap stmt_of is ∙ stmt-If p e b bs c))
 
   pub if_told : (l m : List Local) (into more : List Note) (none one all : List NoteArm) → l ≡ (checks s r ls (block_of b)).locals → m ≡ locals_behind s r l (map branch_of bs)
       → none ≡ [] → one ≡ none ++ note_of s r ls (tree_of e) (block_of b) ∷ [] → all ≡ one ++ notes_behind s r l (map branch_of bs)
-      → more ≡ into ++ note.If all (checks s r m (optional_block c)).notes ∷ [] → more ≡ into ++ (check s r ls (stmt_of (a_stmt_form.If p e b bs c))).notes
+      → more ≡ into ++ note.If all (checks s r m (optional_block c)).notes ∷ [] → more ≡ into ++ (check s r ls (stmt_of t)).notes
   if_told l m into more none one all f g h i j k =
       let l_is = g ∙ ap (λ (z : List Local). locals_behind s r z (map branch_of bs)) f in
       let one_is : one ≡ note_of s r ls (tree_of e) (block_of b) ∷ [] = i ∙ ap (λ z. z ++ note_of s r ls (tree_of e) (block_of b) ∷ []) h in
@@ -156,11 +157,11 @@ module _ (s : Scope) (r : Option SourceType) (ls : List Local) (p : Place) (e : 
       ∙ ap (λ (z : List Local). into ++ note.If all (checks s r z last).notes ∷ []) l_is
       ∙ ap (λ z. into ++ note.If all z ∷ []) (rest_notes_are s r ls whole last)
       ∙ ap (λ z. into ++ note.If z (check_branches s r ls (branches_of whole last)).rest ∷ []) (all_is ∙ notes_are s r ls whole last)
-      ∙ sym (ap (λ z. into ++ (check s r ls z).notes) (stmt-If p e b bs c))
+      ∙ sym (ap (λ z. into ++ (check s r ls z).notes) (ap stmt_of is ∙ stmt-If p e b bs c))
 
   pub if_done : (l m : List Local) (none one all : Option (List Arm)) (done : Option (List Typed_stmt)) → l ≡ (checks s r ls (block_of b)).locals → m ≡ locals_behind s r l (map branch_of bs)
       → none ≡ Some [] → one ≡ with_typed none (arm_of s r ls (tree_of e) (block_of b)) → all ≡ arms_behind s r l one (map branch_of bs)
-      → done ≡ if_typed p all (checks s r m (optional_block c)).typed → done ≡ (check s r ls (stmt_of (a_stmt_form.If p e b bs c))).typed
+      → done ≡ if_typed p all (checks s r m (optional_block c)).typed → done ≡ (check s r ls (stmt_of t)).typed
   if_done l m none one all done f g h i j k =
       let l_is = g ∙ ap (λ (z : List Local). locals_behind s r z (map branch_of bs)) f in
       let one_is : one ≡ with_typed (Some []) (arm_of s r ls (tree_of e) (block_of b)) = i ∙ ap (λ z. with_typed z (arm_of s r ls (tree_of e) (block_of b))) h in
@@ -170,4 +171,4 @@ module _ (s : Scope) (r : Option SourceType) (ls : List Local) (p : Place) (e : 
       ∙ ap (λ (z : List Local). if_typed p all (checks s r z last).typed) l_is
       ∙ ap (λ z. if_typed p all z) (rest_typed_are s r ls whole last)
       ∙ ap (λ z. if_typed p z (check_branches s r ls (branches_of whole last)).typed_rest) (all_is ∙ typed_are s r ls [] whole last ∙ before_none (check_branches s r ls (branches_of whole last)).typed_arms)
-      ∙ sym (ap (λ z. (check s r ls z).typed) (stmt-If p e b bs c))
+      ∙ sym (ap (λ z. (check s r ls z).typed) (ap stmt_of is ∙ stmt-If p e b bs c))
