@@ -73,7 +73,7 @@ all_arm_typed s r xs i ls so_far all high h = sym (at_drop_all (λ (ys : List Br
 
 -- ---- what is said of arms at once
 
-arms_before : List Arm → Option (List Arm) → Option (List Arm)
+abbrev arms_before : List Arm → Option (List Arm) → Option (List Arm)
 arms_before ts None = None
 arms_before ts (Some us) = Some (ts ++ us)
 
@@ -145,10 +145,10 @@ module _ (s : Scope) (r : Option SourceType) (ls : List Local) (p : Place) (e : 
       ∙ locals_are s r ls whole last
       ∙ sym (ap (λ z. (check s r ls z).locals) (ap stmt_of is ∙ stmt-If p e b bs c))
 
-  pub if_told : (l m : List Local) (into more : List Note) (none one all : List NoteArm) → l ≡ (checks s r ls (block_of b)).locals → m ≡ locals_behind s r l (map branch_of bs)
-      → none ≡ [] → one ≡ none ++ note_of s r ls (tree_of e) (block_of b) ∷ [] → all ≡ one ++ notes_behind s r l (map branch_of bs)
+  pub if_told : (l m : List Local) (into more : List Note) (start one all : List NoteArm) → l ≡ (checks s r ls (block_of b)).locals → m ≡ locals_behind s r l (map branch_of bs)
+      → start ≡ [] → one ≡ start ++ note_of s r ls (tree_of e) (block_of b) ∷ [] → all ≡ one ++ notes_behind s r l (map branch_of bs)
       → more ≡ into ++ note.If all (checks s r m (optional_block c)).notes ∷ [] → more ≡ into ++ (check s r ls (stmt_of t)).notes
-  if_told l m into more none one all f g h i j k =
+  if_told l m into more start one all f g h i j k =
       let l_is = g ∙ ap (λ (z : List Local). locals_behind s r z (map branch_of bs)) f in
       let one_is : one ≡ note_of s r ls (tree_of e) (block_of b) ∷ [] = i ∙ ap (λ z. z ++ note_of s r ls (tree_of e) (block_of b) ∷ []) h in
       let all_is : all ≡ notes_behind s r ls whole = j ∙ ap (λ z. z ++ notes_behind s r l (map branch_of bs)) one_is ∙ ap (λ (z : List Local). note_of s r ls (tree_of e) (block_of b) ∷ notes_behind s r z (map branch_of bs)) f in
@@ -159,10 +159,10 @@ module _ (s : Scope) (r : Option SourceType) (ls : List Local) (p : Place) (e : 
       ∙ ap (λ z. into ++ note.If z (check_branches s r ls (branches_of whole last)).rest ∷ []) (all_is ∙ notes_are s r ls whole last)
       ∙ sym (ap (λ z. into ++ (check s r ls z).notes) (ap stmt_of is ∙ stmt-If p e b bs c))
 
-  pub if_done : (l m : List Local) (none one all : Option (List Arm)) (done : Option (List Typed_stmt)) → l ≡ (checks s r ls (block_of b)).locals → m ≡ locals_behind s r l (map branch_of bs)
-      → none ≡ Some [] → one ≡ with_typed none (arm_of s r ls (tree_of e) (block_of b)) → all ≡ arms_behind s r l one (map branch_of bs)
-      → done ≡ if_typed p all (checks s r m (optional_block c)).typed → done ≡ (check s r ls (stmt_of t)).typed
-  if_done l m none one all done f g h i j k =
+  pub if_done : (l m : List Local) (start one all : Option (List Arm)) (end : Option (List Typed_stmt)) → l ≡ (checks s r ls (block_of b)).locals → m ≡ locals_behind s r l (map branch_of bs)
+      → start ≡ Some [] → one ≡ with_typed start (arm_of s r ls (tree_of e) (block_of b)) → all ≡ arms_behind s r l one (map branch_of bs)
+      → end ≡ if_typed p all (checks s r m (optional_block c)).typed → end ≡ (check s r ls (stmt_of t)).typed
+  if_done l m start one all end f g h i j k =
       let l_is = g ∙ ap (λ (z : List Local). locals_behind s r z (map branch_of bs)) f in
       let one_is : one ≡ with_typed (Some []) (arm_of s r ls (tree_of e) (block_of b)) = i ∙ ap (λ z. with_typed z (arm_of s r ls (tree_of e) (block_of b))) h in
       let all_is : all ≡ arms_behind s r ls (Some []) whole = j ∙ ap (λ z. arms_behind s r l z (map branch_of bs)) one_is ∙ ap (λ (z : List Local). arms_behind s r z (with_typed (Some []) (arm_of s r ls (tree_of e) (block_of b))) (map branch_of bs)) f in
