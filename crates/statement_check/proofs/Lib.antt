@@ -3,3 +3,8 @@ mod Behind
 mod Seeing
 mod Blocks
 mod Stepping
+mod Arms
+mod Turns
+mod Naming
+mod Adding
+mod Fitting

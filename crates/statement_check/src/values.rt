@@ -1,6 +1,6 @@
 //! Expressions of statements: what they mean, and their values.
 
-ghost use Rattle.std.specs.Prelude.{◌≡◌, ◌++◌, IfOk, OnOk};
+ghost use Rattle.std.specs.Prelude.{◌≡◌, ◌++◌, true, IfOk, OnOk};
 ghost use Rattle.source_names.specs.Source as source;
 ghost use Rattle.meaning_rules.specs.Meanings as meanings;
 ghost use Rattle.expression_check.specs.Expressions as spec;

@@ -12,7 +12,7 @@ loop-rest-preserved c =
     let s = seen c.args.sight.now c.args.locals.now in
     record {
       told = told_behind (λ (ts : List Tree). (spec.slots s (exs_of (map tree_of ts))).notes) (slot_told s (tree_of c.first-item.result))
-          c.loop-rest.rest.now c.first-item.result c.loop-rest.into c.slot_of-number.new.into _ c.first-item.is c.in-len1-up.len_at_least (λ ys. refl)
+          c.loop-rest.rest.now c.first-item.result c.loop-rest.into c.slot_of.new.into _ c.first-item.is c.in-len1-up.len_at_least (λ ys. refl)
           c.in_ok-number.ensures.told c.loop-rest.invariant.told;
       numbers = told_behind (λ (ts : List Tree). (spec.slots s (exs_of (map tree_of ts))).numbers) (slot_number s (tree_of c.first-item.result) ∷ [])
           c.loop-rest.rest.now c.first-item.result c.loop-rest.numbers c.push.new.self _ c.first-item.is c.in-len1-up.len_at_least (λ ys. refl)
