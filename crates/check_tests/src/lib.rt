@@ -1,5 +1,7 @@
-//! Small modules and the answers on them, asked once.
+//! Small modules and a table of sources, and the answers on them.
 #![tactic(auto)]
 
 #[cfg(test)]
 mod modules;
+#[cfg(test)]
+mod sources;
