@@ -180,7 +180,7 @@ const RULES: [(&str, &str); 8] = [
         "return op.keccak256(Bytes(b\"\"))",
         "t.py:4:19: P08 left out\n",
     ),
-    ("5 = y", "t.py:4:9: P16 target\n"),
+    ("5 = y\n        return UInt64(1)", "t.py:4:9: P16 target\n"),
 ];
 
 #[test]
