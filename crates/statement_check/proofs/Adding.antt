@@ -12,7 +12,7 @@ use Rattle.py_grammar.specs.declared.statement.Stmt.TheVariants as a_stmt_form
 use Rattle.py_grammar.specs.declared.statement.Branch.{Branch}
 use Rattle.py_grammar.specs.declared.statement.Block.{Block}
 use Rattle.source_names.specs.declared.named.Entry.{Entry}
-use Rattle.source_names.specs.Source.{Ex, exs_of, tree_of}
+use Rattle.source_names.specs.Source.{exs_of, tree_of}
 use Rattle.source_headers.specs.Headers.{all_clashes}
 use Rattle.meaning_rules.specs.declared.scope.Local.{Local}
 use Rattle.statement_check.specs.Lines.{OneBranch, Sts, block_of, block_or_none, branch_of, branches_of, stmt_of, stmts_of}

@@ -1,16 +1,16 @@
 -- What each form of a statement stands for.
 use Rattle.std.proofs.Common.{◌≡◌, ◌∙◌, List, map, ap, sym, Option, Some, None}
-use Rattle.std.specs.Prelude.{option_map, [], ◌∷◌}
+use Rattle.std.specs.Prelude.{option_map}
 use Rattle.puya_base.specs.declared.source.Place.{Place}
 use Rattle.py_grammar.specs.declared.word.Word.{Word}
 use Rattle.py_grammar.specs.declared.expression.Tree.{Tree}
 use Rattle.py_grammar.specs.declared.statement.Simple.{Simple}
 use Rattle.py_grammar.specs.declared.statement.Stmt.{Stmt}
 use Rattle.py_grammar.specs.declared.statement.Stmt.TheVariants as a_stmt_form
-use Rattle.py_grammar.specs.declared.statement.Branch.{Branch, roll-Branch}
+use Rattle.py_grammar.specs.declared.statement.Branch.{Branch}
 use Rattle.py_grammar.specs.declared.statement.Block.{Block}
 use Rattle.py_grammar.specs.declared.statement.Block.TheVariants as block
-use Rattle.py_grammar.specs.declared.statement.Block.TheOpen.{Stmt-F, Branch-F, Block-F}
+use Rattle.py_grammar.specs.declared.statement.Block.TheOpen.{Stmt-F, Block-F}
 use Rattle.py_grammar.specs.declared.statement.Block.TheFolds.{fold-roll-Stmt, fold-roll-Block, fold_out-Branch}
 use Rattle.source_names.specs.Source.{tree_of}
 use Rattle.statement_check.specs.Lines.{St, Sts, OneBranch, line, if_else, while_do, for_in, a_branch, a_stmt, no_stmts, block_layer, block_of, block_or_none, branch_layer, branch_of, branches_of, line_of, stmt_layer, stmt_of, stmts_of}

@@ -1,8 +1,7 @@
 -- Values of variables, and of other places that have a type, behind the notes on them.
-use Rattle.std.proofs.Common.{◌≡◌, List, [], ◌∷◌, ◌++◌, Option, Result, Ok, Err, OnOk, refl, sym, ap, ◌∙◌, append_assoc, append-nil}
+use Rattle.std.proofs.Common.{◌≡◌, List, ◌++◌, Option, Result, Ok, Err, OnOk, refl, sym, ap, ◌∙◌, append_assoc, append-nil}
 use Rattle.puya_base.specs.declared.source.Place.{Place}
 use Rattle.path_rules.specs.declared.note.Note.{Note}
-use Rattle.source_names.specs.declared.types.SourceType.{SourceType}
 use Rattle.meaning_rules.specs.declared.meaning.Typed.{Typed}
 use Rattle.meaning_rules.specs.declared.scope.Status.{Status}
 use Rattle.meaning_rules.specs.declared.scope.Status.TheVariants as status
@@ -11,7 +10,7 @@ use Rattle.meaning_rules.specs.declared.meaning.Hope.{Hope}
 use Rattle.meaning_rules.specs.declared.meaning.Lit.TheVariants as lit
 use Rattle.meaning_rules.specs.declared.meaning.Meaning.{Meaning}
 use Rattle.meaning_rules.specs.declared.meaning.Meaning.TheVariants as meaning
-use Rattle.meaning_rules.specs.Meanings.{Judged, Valued, fits_when, operand, required, says, settled, value}
+use Rattle.meaning_rules.specs.Meanings.{Judged, Valued, operand, says, settled, value}
 use Rattle.statement_check.specs.Parting.{fits_status}
 use Rattle.statement_check.specs.Statements.{alone_says, for_status}
 

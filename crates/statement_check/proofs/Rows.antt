@@ -1,12 +1,9 @@
 -- Worked rows of the rules on expressions and statements.
-use Rattle.std.proofs.Common.{◌≡◌, ℕ, true, false, List, [], ◌∷◌, Option, Some, None, refl}
+use Rattle.std.proofs.Common.{◌≡◌, ℕ, true, false, List, [], ◌∷◌, Some, None, refl}
 use Rattle.std.specs.Prelude.{codes}
 use Rattle.puya_base.specs.declared.source.Place.{Place}
-use Rattle.puya_base.specs.declared.source.Rule.{Rule}
 use Rattle.puya_base.specs.declared.source.Rule.TheVariants as rule
-use Rattle.puya_base.specs.declared.source.Refusal.{Refusal}
 use Rattle.py_grammar.specs.declared.word.Word.{Word}
-use Rattle.py_grammar.specs.declared.word.Literal.{Literal}
 use Rattle.py_grammar.specs.declared.expression.UnaryOp.TheVariants as op
 use Rattle.algopy_library.specs.declared.row.Row.{Row}
 use Rattle.algopy_library.specs.declared.row.Row.TheVariants as row
@@ -19,18 +16,16 @@ use Rattle.path_rules.specs.declared.note.Note.TheVariants as note
 use Rattle.source_names.specs.declared.types.SourceType.TheVariants as ty
 use Rattle.source_names.specs.declared.named.Thing.TheVariants as thing
 use Rattle.source_names.specs.declared.named.Entry.{Entry}
-use Rattle.source_names.specs.declared.signature.Signature.{Signature}
 use Rattle.source_names.specs.Source.{Ex, name, number, text, bytes, flag, paren, tuple, display, index, slice, call, unary, binary, choose, Exs, no_exprs, an_expr, Maybe, absent, present, Args, no_args, an_arg, does, and_then, is_in}
 use Rattle.source_names.specs.Source as source
 use Rattle.source_names.specs.Equations.{plain-Scalar, plain-Nothing, plain-Tuple, parts-Scalar, parts-Tuple}
 use Rattle.meaning_rules.specs.declared.meaning.Hope.TheVariants as hope
 use Rattle.meaning_rules.specs.declared.scope.Scope.{Scope}
-use Rattle.meaning_rules.specs.declared.scope.Local.{Local}
 use Rattle.meaning_rules.specs.declared.scope.Status.TheVariants as status
-use Rattle.meaning_rules.specs.Meanings.{Judged, broken, freely, context, value, condition}
+use Rattle.meaning_rules.specs.Meanings.{broken, freely, value}
 use Rattle.expression_check.specs.Expressions.{judge}
-use Rattle.statement_check.specs.Lines.{Line, skip, leave, give, claim, alone, assign, augment, St, line, if_else, while_do, for_in, Sts, no_stmts, a_stmt, Branches, otherwise, a_branch}
-use Rattle.statement_check.specs.Statements.{checks, Done}
+use Rattle.statement_check.specs.Lines.{give, alone, assign, augment, St, line, for_in, no_stmts, a_stmt}
+use Rattle.statement_check.specs.Statements.{checks}
 
 ruleset types = (plain-Scalar, plain-Nothing, plain-Tuple, parts-Scalar, parts-Tuple)
 

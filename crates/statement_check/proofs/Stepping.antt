@@ -1,16 +1,13 @@
 -- Statements one after another, and the arms of an `if`.
-use Rattle.std.proofs.Common.{◌≡◌, ℕ, ◌+◌, ◌<◌, ◌≤◌, List, [], ◌∷◌, ◌++◌, Option, Some, None, length, drop, get_or, map, refl, sym, ap, ◌∙◌, append_assoc, append-nil}
+use Rattle.std.proofs.Common.{◌≡◌, ℕ, ◌+◌, ◌<◌, ◌≤◌, List, [], ◌∷◌, ◌++◌, Option, Some, None, length, drop, get_or, refl, sym, ap, ◌∙◌, append_assoc, append-nil}
 use Rattle.std.proofs.lemmas.List.{at_drop_more, at_drop_all}
 use Rattle.awst.specs.declared.statement.Stmt.{Stmt as Typed}
-use Rattle.awst.specs.declared.statement.Arm.{Arm}
 use Rattle.path_rules.specs.declared.note.Note.{Note}
-use Rattle.path_rules.specs.declared.note.NoteArm.{NoteArm}
 use Rattle.py_grammar.specs.declared.statement.Stmt.{Stmt}
 use Rattle.source_names.specs.declared.types.SourceType.{SourceType}
 use Rattle.meaning_rules.specs.declared.scope.Scope.{Scope}
 use Rattle.meaning_rules.specs.declared.scope.Local.{Local}
-use Rattle.statement_check.specs.Checking.{arm_of, arms_behind, locals_behind, note_of, notes_behind, with_typed}
-use Rattle.statement_check.specs.Lines.{OneBranch, stmt_of, stmts_of}
+use Rattle.statement_check.specs.Lines.{stmt_of, stmts_of}
 use Rattle.statement_check.specs.Parting.{joined}
 use Rattle.statement_check.specs.Statements.{Done, behind_done, check, checks}
 

@@ -1,5 +1,5 @@
 -- The turns of a `for`, over what it goes over.
-use Rattle.std.proofs.Common.{◌≡◌, ℕ, List, [], ◌∷◌, ◌++◌, Bool, true, false, Option, Some, None, refl, sym, ap, ◌∙◌, append_assoc}
+use Rattle.std.proofs.Common.{◌≡◌, ℕ, List, [], ◌∷◌, ◌++◌, Bool, true, false, Option, Some, None, refl, ap, ◌∙◌, append_assoc}
 use Rattle.puya_base.specs.declared.source.Place.{Place}
 use Rattle.awst.specs.declared.statement.Stmt.{Stmt}
 use Rattle.awst.specs.declared.statement.StmtKind.{StmtKind}
@@ -13,7 +13,7 @@ use Rattle.statement_check.specs.declared.looping.Over.{Over as Written}
 use Rattle.statement_check.specs.Annotating.{differs_notes}
 use Rattle.statement_check.specs.Checking.{turns}
 use Rattle.statement_check.specs.Lines.{Sts}
-use Rattle.statement_check.specs.Looping.{IsOver, for_stmt, over_kind, turn_type}
+use Rattle.statement_check.specs.Looping.{IsOver, for_stmt, over_kind}
 use Rattle.statement_check.specs.Statements.{Over, a_for, checks, differs, for_typed}
 
 typed_is : (p q : Place) (i : ℕ) (df : Bool) (w : Written) (k : Option (ℕ → List Stmt → StmtKind)) (b : Option (List Stmt)) → over_kind w ≡ k

@@ -1,9 +1,8 @@
 -- Parts of the rules on compound statements: arms of an `if`, and the turns of a `for`.
-use Rattle.std.specs.Prelude.{ℕ, Bool, true, false, List, [], ◌∷◌, ◌++◌, Option, Some, None}
+use Rattle.std.specs.Prelude.{ℕ, true, List, [], ◌∷◌, ◌++◌, Option, Some, None}
 use Rattle.puya_base.specs.declared.source.Place.{Place}
 use Rattle.awst.specs.declared.statement.Stmt.{Stmt}
 use Rattle.awst.specs.declared.statement.Arm.{Arm, roll-Arm}
-use Rattle.path_rules.specs.declared.note.Note.{Note}
 use Rattle.path_rules.specs.declared.note.NoteArm.{NoteArm}
 use Rattle.path_rules.specs.declared.note.Note.TheVariants as note
 use Rattle.source_names.specs.declared.types.SourceType.{SourceType}

@@ -1,5 +1,5 @@
 -- Statements as plain data (Python reference, chapters 7 and 8). A target or a value of several expressions is a tuple; a block is a list of statements.
-use Rattle.std.specs.Prelude.{ℕ, Bool, true, false, List, [], ◌∷◌, map, Option, Some, None}
+use Rattle.std.specs.Prelude.{List, [], ◌∷◌, map, Option, Some, None}
 use Rattle.puya_base.specs.declared.source.Place.{Place}
 use Rattle.py_grammar.specs.declared.word.Word.{Word}
 use Rattle.py_grammar.specs.declared.type_tree.TypeTree.{TypeTree}
@@ -16,7 +16,7 @@ use Rattle.py_grammar.specs.declared.statement.Block.TheOpen.{Stmt-F, Branch-F, 
 use Rattle.py_grammar.specs.declared.statement.Block.TheFolds.{fold-Stmt, fold-Branch, fold-Block}
 use Rattle.algopy_library.specs.declared.operator.Operator.{Operator}
 use Rattle.algopy_library.specs.declared.operator.Operator.TheVariants as operator
-use Rattle.source_names.specs.Source.{Ex, tree_of, listed, place_of}
+use Rattle.source_names.specs.Source.{Ex, tree_of, listed}
 
 pub data Line : Type 0 where
   skip : Line

@@ -1,5 +1,5 @@
 -- What a `for` goes over, as a value of the program.
-use Rattle.std.specs.Prelude.{ℕ, ◌≡◌, Bool, true, false, if◌then◌else◌, List, [], ◌∷◌, ◌++◌, Option, Some, None}
+use Rattle.std.specs.Prelude.{ℕ, ◌≡◌, Bool, if◌then◌else◌, List, Option, Some, None}
 use Rattle.puya_base.specs.declared.source.Place.{Place}
 use Rattle.awst.specs.declared.statement.Stmt.{Stmt}
 use Rattle.awst.specs.declared.statement.StmtKind.{StmtKind}

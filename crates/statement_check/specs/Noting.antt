@@ -1,5 +1,5 @@
 -- Which names are seen once targets are, the variable that a target is, and the targets of a part of an `if`.
-use Rattle.std.specs.Prelude.{ℕ, Bool, true, false, ◌&&◌, if◌then◌else◌, List, [], ◌∷◌, ◌++◌, Option, Some, None}
+use Rattle.std.specs.Prelude.{ℕ, Bool, ◌&&◌, if◌then◌else◌, List, [], ◌∷◌, ◌++◌, Option, Some, None}
 use Rattle.py_grammar.specs.declared.word.Word.{Word}
 use Rattle.py_grammar.specs.declared.statement.Block.{Block}
 use Rattle.source_names.specs.Things.{is_myself}

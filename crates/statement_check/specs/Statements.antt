@@ -1,12 +1,11 @@
 -- Statements (Python reference, chapters 7 and 8): typed statements, notes, and the types of variables, which the first assignment or annotation
 -- in reading order fixes; P14 and P16.
-use Rattle.std.specs.Prelude.{ℕ, zero, suc, ◌+◌, ◌==◌, nat_eq, Bool, true, false, not, if◌then◌else◌, List, [], ◌∷◌, ◌++◌, map, length, Option, Some, None, slice_get, slice_set}
+use Rattle.std.specs.Prelude.{ℕ, Bool, true, false, not, if◌then◌else◌, List, [], ◌∷◌, ◌++◌, Option, Some, None, slice_get}
 use Rattle.puya_base.specs.declared.source.Place.{Place}
 use Rattle.puya_base.specs.declared.source.Rule.TheVariants as rule
 use Rattle.awst.specs.declared.expression.Expr.{Expr}
 use Rattle.awst.specs.declared.expression.ExprKind.{ExprKind, out-ExprKind}
 use Rattle.awst.specs.declared.expression.ExprKind.TheOpen.{ExprKind-F}
-use Rattle.awst.specs.declared.primitive.Primitive.{Primitive}
 use Rattle.awst.specs.declared.statement.Stmt.{Stmt}
 use Rattle.awst.specs.declared.statement.StmtKind.{StmtKind}
 use Rattle.awst.specs.declared.statement.StmtKind.TheVariants as kind
@@ -25,12 +24,11 @@ use Rattle.path_rules.specs.declared.note.Note.TheVariants as note
 use Rattle.source_names.specs.declared.types.SourceType.{SourceType}
 use Rattle.source_names.specs.declared.types.SourceType.TheVariants as ty
 use Rattle.source_names.specs.Types.{same_type, scalar_of, tuple_parts, is_nothing}
-use Rattle.source_names.specs.Annotations.{Written, written, of_value}
+use Rattle.source_names.specs.Annotations.{written, of_value}
 use Rattle.source_names.specs.Source.{Ex, Exs, no_exprs, an_expr, does, place_of}
 use Rattle.meaning_rules.specs.declared.meaning.Hope.{Hope}
 use Rattle.meaning_rules.specs.declared.meaning.Hope.TheVariants as hope
 use Rattle.meaning_rules.specs.declared.meaning.Expect.TheVariants as expect
-use Rattle.meaning_rules.specs.declared.meaning.Context.{Context}
 use Rattle.meaning_rules.specs.declared.meaning.Typed.{Typed}
 use Rattle.meaning_rules.specs.declared.meaning.Lit.{Lit}
 use Rattle.meaning_rules.specs.declared.meaning.Lit.TheVariants as lit
@@ -43,8 +41,8 @@ use Rattle.meaning_rules.specs.declared.scope.Status.{Status}
 use Rattle.meaning_rules.specs.declared.scope.Status.TheVariants as status
 use Rattle.meaning_rules.specs.declared.operand.Operand.{Operand}
 use Rattle.meaning_rules.specs.declared.operand.Operand.TheVariants.{Value as a_value, Literal as a_literal, Missing as missing}
-use Rattle.meaning_rules.specs.Meanings.{Judged, Valued, broken, broken_all, no_value, value_breaks, a_typed, literal, operand_of, value, required, fits_type, hoped, context, freely, condition}
-use Rattle.meaning_rules.specs.Operations.{local_of, read_status, has_between, operation_at, is_missing}
+use Rattle.meaning_rules.specs.Meanings.{Judged, Valued, broken, broken_all, no_value, value_breaks, a_typed, literal, operand_of, value, required, hoped, context, freely, condition}
+use Rattle.meaning_rules.specs.Operations.{local_of, read_status, has_between, operation_at}
 use Rattle.expression_check.specs.Variables.{status_at, fixed, local_names}
 use Rattle.expression_check.specs.Expressions.{judge}
 use Rattle.statement_check.specs.Lines.{Line, skip, leave, again, give, claim, delete, alone, assign, augment, annotate, St, line, if_else, while_do, for_in, Sts, no_stmts, a_stmt, Branches, otherwise, a_branch}

@@ -1,5 +1,5 @@
 -- The variables of a function (Python reference 4.2.1): the names that are targets, in reading order.
-use Rattle.std.specs.Prelude.{ℕ, Bool, true, false, ◌&&◌, if◌then◌else◌, List, [], ◌∷◌, ◌++◌, bytes_eq, Option, Some, None}
+use Rattle.std.specs.Prelude.{ℕ, Bool, ◌&&◌, if◌then◌else◌, List, [], ◌∷◌, ◌++◌, Option, Some, None}
 use Rattle.py_grammar.specs.declared.word.Word.{Word}
 use Rattle.source_names.specs.Things.{is_myself}
 use Rattle.source_names.specs.Lookups.{is_seen}

@@ -1,4 +1,4 @@
-use Rattle.std.proofs.Common.{◌≡◌, ◌∙◌, ◌++◌, [], ◌∷◌, true, ap}
+use Rattle.std.proofs.Common.{◌∙◌, ◌++◌, [], ◌∷◌, true, ap}
 use Rattle.std.proofs.lemmas.Result.{on_ok_weaker}
 use Rattle.path_rules.specs.declared.note.Note.TheVariants as note
 use Rattle.source_names.specs.Source.{place_of}

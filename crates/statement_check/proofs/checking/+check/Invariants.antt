@@ -1,4 +1,4 @@
-use Rattle.std.proofs.Common.{◌≡◌, ◌++◌, ◌+◌, ◌*◌, [], map, drop}
+use Rattle.std.proofs.Common.{◌≡◌, ◌++◌, ◌+◌, ◌*◌, map, drop}
 use Rattle.py_grammar.specs.declared.statement.Stmt.{size-Stmt}
 use Rattle.py_grammar.specs.declared.statement.Block.{size-Block}
 use Rattle.py_grammar.specs.declared.statement.Block.TheShapes

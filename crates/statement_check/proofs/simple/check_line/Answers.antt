@@ -1,4 +1,4 @@
-use Rattle.std.proofs.Common.{◌≡◌, ◌∙◌, ap, sym}
+use Rattle.std.proofs.Common.{◌∙◌, ap, sym}
 use Rattle.py_grammar.specs.declared.statement.Simple.{Simple}
 use Rattle.source_names.specs.Source.{place_of}
 use Rattle.meaning_rules.specs.Meanings.{freely}

@@ -1,4 +1,4 @@
-use Rattle.std.proofs.Common.{◌≡◌, ◌∙◌, ◌++◌, [], ◌∷◌, true, ap, append_assoc}
+use Rattle.std.proofs.Common.{◌∙◌, ◌++◌, [], ◌∷◌, true, ap, append_assoc}
 use Rattle.path_rules.specs.declared.note.Note.TheVariants as note
 use Rattle.source_names.specs.Source.{place_of}
 use Rattle.meaning_rules.specs.declared.meaning.Context.{Context}

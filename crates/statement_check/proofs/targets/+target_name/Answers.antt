@@ -1,4 +1,3 @@
-use Rattle.std.proofs.Common.{◌≡◌, map}
 use Rattle.statement_check.proofs.Naming.{name_in_parens}
 use Rattle.statement_check.proofs.targets.+target_name.Goals as goal
 

@@ -1,7 +1,7 @@
-use Rattle.std.proofs.Common.{◌≡◌, ◌<◌, ◌∙◌, ◌+◌, ◌++◌, [], ◌∷◌, map, drop, length, ap, sym, refl, arith}
+use Rattle.std.proofs.Common.{◌<◌, ◌∙◌, ◌++◌, [], ◌∷◌, map, length, ap, refl, arith}
 use Rattle.std.proofs.lemmas.Result.{on_ok_weaker}
 use Rattle.source_headers.specs.Headers.{all_clashes}
-use Rattle.statement_check.specs.Lines.{block_of, branch_of, stmt_of, stmts_of}
+use Rattle.statement_check.specs.Lines.{block_of, branch_of, stmt_of}
 use Rattle.statement_check.specs.Noting.{arm_targets, noted, optional_block, target_local}
 use Rattle.statement_check.specs.Targets.{all_targets, first_ones, targets}
 use Rattle.statement_check.proofs.Adding as adding

@@ -1,4 +1,3 @@
-use Rattle.std.proofs.Common.{◌≡◌, map}
 use Rattle.statement_check.proofs.Naming.{unpacked_in_parens}
 use Rattle.statement_check.proofs.targets.+unpacked.Goals as goal
 

@@ -1,4 +1,4 @@
-use Rattle.std.proofs.Common.{◌≡◌, ◌∙◌, ◌++◌, map, ap}
+use Rattle.std.proofs.Common.{◌∙◌, ◌++◌, map, ap}
 use Rattle.source_headers.specs.Headers.{all_clashes}
 use Rattle.source_names.specs.Source.{tree_of}
 use Rattle.statement_check.specs.Noting.{noted, target_local}
