@@ -1,6 +1,6 @@
 //! What a contract is compiled to.
 
-use puya_base::{Blob, List, Memory, Name, Refusal};
+use puya_base::{Blob, List, Memory, Name, Refusal, SourceFault};
 use std::alloc::{AllocError, AllocFailed};
 
 /// The two programs of a contract, and its description (ARC-56), which is none until descriptions are written.
@@ -55,5 +55,19 @@ impl<T: Drop> From<AllocFailed<T>> for CompileFault {
 
     fn from(_e: AllocFailed<T>) -> CompileFault {
         CompileFault::Memory
+    }
+}
+
+impl From<SourceFault> for CompileFault {
+    ghost use Rattle.std.specs.Prelude.{◌≡◌};
+    ghost use Rattle.compiler.specs.Source.{fault_of};
+
+    ghost from_gives = { λ f e. e ≡ fault_of f };
+
+    fn from(fault: SourceFault) -> CompileFault {
+        match fault {
+            SourceFault::Refused(refusal) => CompileFault::Refused(refusal),
+            SourceFault::Memory => CompileFault::Memory,
+        }
     }
 }

@@ -1,15 +1,16 @@
 //! A source to its programs.
 
 ghost use Rattle.std.specs.Prelude.{◌<◌, ◌^◌, ◌≤◌, IfOk, length};
-ghost use Rattle.compiler.specs.Compiled.{IsBuilt, IsBuiltFrom, IsCompiled};
+ghost use Rattle.compiler.specs.Compiled.{IsBuilt, IsBuiltFrom, IsCompiled, IsKept};
 
 use crate::build::{Build, Builds, CompileFault};
 use crate::form::{Sum, class_in, computed};
 use crate::programs::{built, clear_built};
 use crate::tree::tree_of;
-use puya_base::{Level, List, Memory, Name, SourceFault};
+use puya_base::{Level, List, Memory, Name};
 use py_grammar::Module;
 use std::alloc::Global;
+use type_check::check;
 
 /// The programs of a contract.
 fn built_of(alloc: Global, name: &str, sum: Sum) -> Result<Build, Memory>
@@ -41,15 +42,21 @@ fn built_from(alloc: Global, tree: &Module) -> Result<Builds, CompileFault>
     Ok(builds)
 }
 
+/// Whether a tree keeps the rules on names, types and paths: the error is the first that it breaks.
+fn kept(alloc: Global, tree: &Module) -> Result<(), CompileFault>
+    ensures { IsKept tree.now result }
+{
+    check(alloc, tree)?;
+    Ok(())
+}
+
 /// Compiles a source of at most 1,048,576 bytes: it is compiled whole or refused, by the first rule that it breaks. The level is
 /// looked at once code is optimised.
 pub fn compile(alloc: Global, source: &[u8], _level: Level) -> Result<Builds, CompileFault>
     requires { length source.now ≤ 1048576 }
     ensures { IsCompiled source.now result }
 {
-    match tree_of(alloc, source) {
-        Ok(tree) => built_from(alloc, &tree),
-        Err(SourceFault::Refused(refusal)) => Err(CompileFault::Refused(refusal)),
-        Err(SourceFault::Memory) => Err(CompileFault::Memory),
-    }
+    let tree = tree_of(alloc, source)?;
+    kept(alloc, &tree)?;
+    built_from(alloc, &tree)
 }

@@ -1,14 +1,12 @@
 -- What is said of expressions and their parts: notes and meanings. A rule is judged on a node only where its parts are known, which is: each of
 -- them is a value or a literal.
-use Rattle.std.specs.Prelude.{ℕ, Bool, true, false, if◌then◌else◌, List, [], ◌∷◌, ◌++◌, map, Option, Some, None, slice_get}
+use Rattle.std.specs.Prelude.{ℕ, Bool, false, if◌then◌else◌, List, [], ◌∷◌, ◌++◌, map, Option, Some, None, slice_get}
 use Rattle.puya_base.specs.declared.source.Place.{Place}
 use Rattle.puya_base.specs.declared.source.Rule.{Rule}
 use Rattle.puya_base.specs.declared.source.Rule.TheVariants as rule
 use Rattle.puya_base.specs.declared.source.Refusal.{Refusal}
-use Rattle.awst.specs.declared.expression.Expr.{Expr}
 use Rattle.awst.specs.declared.expression.ExprKind.{ExprKind}
 use Rattle.awst.specs.declared.expression.ExprKind.TheVariants as kind
-use Rattle.awst.specs.declared.primitive.Primitive.{Primitive}
 use Rattle.awst.specs.declared.primitive.Primitive.TheVariants as prim
 use Rattle.algopy_library.specs.declared.scalar.Scalar.{Scalar}
 use Rattle.algopy_library.specs.declared.scalar.Scalar.TheVariants as scalar
@@ -17,7 +15,6 @@ use Rattle.path_rules.specs.declared.note.Note.{Note}
 use Rattle.path_rules.specs.declared.note.Note.TheVariants as note
 use Rattle.source_names.specs.declared.types.SourceType.{SourceType}
 use Rattle.source_names.specs.declared.types.SourceType.TheVariants as ty
-use Rattle.source_names.specs.declared.named.Thing.{Thing}
 use Rattle.source_names.specs.Types.{typed, same_type, scalar_of, tuple_parts, is_nothing, same_scalar}
 use Rattle.meaning_rules.specs.declared.meaning.Hope.{Hope}
 use Rattle.meaning_rules.specs.declared.meaning.Hope.TheVariants as hope
@@ -27,9 +24,10 @@ use Rattle.meaning_rules.specs.declared.meaning.Context.{Context}
 use Rattle.meaning_rules.specs.declared.meaning.Typed.{Typed}
 use Rattle.meaning_rules.specs.declared.meaning.Lit.{Lit}
 use Rattle.meaning_rules.specs.declared.meaning.Lit.TheVariants as lit
-use Rattle.meaning_rules.specs.declared.meaning.Range.{Range}
 use Rattle.meaning_rules.specs.declared.meaning.Meaning.{Meaning}
 use Rattle.meaning_rules.specs.declared.meaning.Meaning.TheVariants as meaning
+use Rattle.meaning_rules.specs.declared.operand.Operand.{Operand}
+use Rattle.meaning_rules.specs.declared.operand.Operand.TheVariants.{Value as a_value, Literal as a_literal, Missing as missing}
 
 -- what is said of an expression
 pub record Judged : Type 0 where
@@ -40,12 +38,6 @@ pub record Judged : Type 0 where
 pub record Valued : Type 0 where
   pub notes : List Note
   pub typed : Option Typed
-
--- of an operand: a value, a literal, or nothing that is known
-pub data Operand : Type 0 where
-  a_value : Typed → Operand
-  a_literal : Place → Lit → Operand
-  missing : Operand
 
 pub record Operated : Type 0 where
   pub notes : List Note
@@ -83,6 +75,10 @@ value_breaks r p = record { notes = broken r p ∷ []; typed = None }
 
 abbrev pub a_typed : Typed → Valued
 a_typed t = record { notes = []; typed = Some t }
+
+abbrev pub is_scalar : Option Scalar → Scalar → Bool
+is_scalar None s = false
+is_scalar (Some t) s = same_scalar t s
 
 -- ---- literals
 

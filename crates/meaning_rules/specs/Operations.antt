@@ -1,16 +1,13 @@
 -- Names, members, operators, conditional expressions, tuples and subscripts (Python reference, chapter 6; Algorand Python guide, "Types"): P08 and P09 on names and members, P13 on tuples, P14, P17 on a read.
-use Rattle.std.specs.Prelude.{ℕ, zero, suc, ◌+◌, ◌==◌, nat_lt, Bool, true, false, ◌&&◌, ◌||◌, if◌then◌else◌, List, [], ◌∷◌, ◌++◌, map, length, bytes_eq, codes, Option, Some, None, slice_get}
+use Rattle.std.specs.Prelude.{ℕ, suc, Bool, true, false, ◌&&◌, ◌||◌, if◌then◌else◌, List, [], ◌∷◌, ◌++◌, map, bytes_eq, codes, Option, Some, None, slice_get}
 use Rattle.puya_base.specs.declared.source.Place.{Place}
-use Rattle.puya_base.specs.declared.source.Rule.{Rule}
 use Rattle.puya_base.specs.declared.source.Rule.TheVariants as rule
 use Rattle.awst.specs.declared.expression.Expr.{Expr}
-use Rattle.awst.specs.declared.expression.ExprKind.{ExprKind}
 use Rattle.awst.specs.declared.expression.ExprKind.TheVariants as kind
 use Rattle.awst.specs.declared.expression.Index.TheVariants as item
 use Rattle.awst.specs.declared.primitive.Primitive.{Primitive}
 use Rattle.awst.specs.declared.primitive.Primitive.TheVariants as prim
 use Rattle.py_grammar.specs.declared.word.Word.{Word}
-use Rattle.py_grammar.specs.declared.word.Literal.{Literal}
 use Rattle.py_grammar.specs.declared.expression.UnaryOp.{UnaryOp}
 use Rattle.py_grammar.specs.declared.expression.UnaryOp.TheVariants as op
 use Rattle.algopy_library.specs.declared.scalar.Scalar.{Scalar}
@@ -28,29 +25,25 @@ use Rattle.source_names.specs.declared.constant.Constant.{Constant}
 use Rattle.source_names.specs.declared.constant.Constant.TheVariants as constant
 use Rattle.source_names.specs.declared.named.Thing.{Thing}
 use Rattle.source_names.specs.declared.named.Thing.TheVariants as thing
-use Rattle.source_names.specs.declared.named.Entry.{Entry}
-use Rattle.source_names.specs.Types.{typed, same_type, scalar_of, tuple_parts, fits_limits, same_scalar}
-use Rattle.source_names.specs.Literals.{number_of, joined, is_short}
-use Rattle.source_names.specs.Things.{Found, module_name, member_of, behind, is_myself}
-use Rattle.source_names.specs.Source.{Between, does, and_then, or_else, is_in, Ex, name, number, text, bytes, flag, paren, tuple, display, index, slice, call, unary, binary, choose, Exs, no_exprs, an_expr, Maybe, absent, present, Args, no_args, an_arg, place_of}
-use Rattle.source_names.specs.Source as source
+use Rattle.source_names.specs.Types.{same_type, scalar_of, tuple_parts, fits_limits, same_scalar}
+use Rattle.source_names.specs.Literals.{is_short}
+use Rattle.source_names.specs.Things.{Found, module_name, member_of, is_myself}
+use Rattle.source_names.specs.Source.{Between, does, and_then, or_else, is_in}
 use Rattle.meaning_rules.specs.declared.meaning.Hope.{Hope}
 use Rattle.meaning_rules.specs.declared.meaning.Hope.TheVariants as hope
-use Rattle.meaning_rules.specs.declared.meaning.Expect.{Expect}
-use Rattle.meaning_rules.specs.declared.meaning.Expect.TheVariants as expect
-use Rattle.meaning_rules.specs.declared.meaning.Context.{Context}
 use Rattle.meaning_rules.specs.declared.meaning.Typed.{Typed}
 use Rattle.meaning_rules.specs.declared.meaning.Lit.{Lit}
 use Rattle.meaning_rules.specs.declared.meaning.Lit.TheVariants as lit
-use Rattle.meaning_rules.specs.declared.meaning.Meaning.{Meaning}
 use Rattle.meaning_rules.specs.declared.meaning.Meaning.TheVariants as meaning
 use Rattle.meaning_rules.specs.declared.scope.Scope.{Scope}
 use Rattle.meaning_rules.specs.declared.scope.Local.{Local}
 use Rattle.meaning_rules.specs.declared.scope.Method.{Method}
-use Rattle.meaning_rules.specs.declared.scope.Status.{Status}
 use Rattle.meaning_rules.specs.declared.scope.Status.TheVariants as status
-use Rattle.meaning_rules.specs.Meanings.{Judged, Valued, Operand, a_value, a_literal, missing, Operated, broken, broken_all, unknown, breaks, says, after, a_node, node, no_value, value_breaks, a_typed, literal, lit_node, lit_type, operand_of, settled, value, fits_type, required, hoped, context, freely, part_hope, whole_hope, condition}
-use Rattle.meaning_rules.specs.Calls as calls
+use Rattle.meaning_rules.specs.declared.operand.Operand.{Operand}
+use Rattle.meaning_rules.specs.declared.operand.Operand.TheVariants.{Value as a_value, Literal as a_literal, Missing as missing}
+use Rattle.meaning_rules.specs.declared.operand.End.{End}
+use Rattle.meaning_rules.specs.declared.operand.End.TheVariants.{Absent as no_end, Number as an_end, Broken as broken_end}
+use Rattle.meaning_rules.specs.Meanings.{Judged, Valued, Operated, broken, broken_all, unknown, breaks, says, after, a_node, node, literal, operand_of, settled, value, required, condition}
 
 -- ---- literals
 
@@ -440,12 +433,6 @@ judge_index p q o j =
     after (b.notes ++ i.notes) (index_when p q b.typed i.operand)
 
 -- ---- slices
-
--- an end of a slice: absent, or a number
-pub data End : Type 0 where
-  no_end : End
-  an_end : Expr → End
-  broken_end : End
 
 pub record Ended : Type 0 where
   pub notes : List Note

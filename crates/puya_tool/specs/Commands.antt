@@ -21,8 +21,7 @@ use Rattle.puya_tool.specs.declared.answer.Answer.TheVariants.{WordsUnknown, Unr
 use Rattle.compiler.specs.declared.build.Build.{Build}
 use Rattle.compiler.specs.Form.{Form}
 use Rattle.compiler.specs.Programs.{Serves, IsClear}
-use Rattle.compiler.specs.Source.{IsBroken}
-use Rattle.compiler.specs.Compiled.{AreBuilt, HasForm, HasOtherForm}
+use Rattle.compiler.specs.Compiled.{AreBuilt, HasForm, IsBroken, IsNotBuilt}
 use Rattle.puya_tool.specs.Words.{Command, Call as CallCommand, Run, Asm, Dis, command_of, bin_name}
 
 -- the bytes are held under the name, and are no longer than a file may be
@@ -106,7 +105,7 @@ AreWellFormed (b ∷ bs) = IsWellFormed b.approval × IsWellFormed b.clear × Ar
 abbrev pub Judged : List ℕ → List ℕ → Result (List Build) Answer → Type 0
 Judged file text (Ok builds) = (form : Form) × HasForm text form × AreBuilt form builds
 Judged file text (Err (Refused name refusal)) = (name ≡ file) × IsBroken text refusal
-Judged file text (Err (NotBuilt name)) = (name ≡ file) × HasOtherForm text
+Judged file text (Err (NotBuilt name)) = (name ≡ file) × IsNotBuilt text
 Judged file text (Err _) = ⊥
 
 -- how a call of the source ends, whose call file has this text
@@ -125,7 +124,7 @@ RunEnds code file text _ = ⊥
 abbrev pub CallAnswers : Held → List ℕ → List ℕ → Answer → Type 0
 CallAnswers held file call (Unread name f) = IsUnreadInTurn held file call ((form : Form) × HoldsSource held file form) name f
 CallAnswers held file call (Refused name refusal) = (name ≡ file) × (text : List ℕ) × IsHeld held file text × IsBroken text refusal
-CallAnswers held file call (NotBuilt name) = (name ≡ file) × (text : List ℕ) × IsHeld held file text × HasOtherForm text
+CallAnswers held file call (NotBuilt name) = (name ≡ file) × (text : List ℕ) × IsHeld held file text × IsNotBuilt text
 CallAnswers held file call answer = (form : Form) × HoldsSource held file form × (text : List ℕ) × IsHeld held call text × CallEnds form call text answer
 
 -- what `run` answers

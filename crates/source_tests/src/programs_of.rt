@@ -55,13 +55,13 @@ nothing'''
         return UInt64 ( 0x6 )*UInt64(0b111)
 
     def clear_state_program(
-        self) -> UInt64: return UInt64(2 if False else 1)
+        self) -> UInt64: return UInt64(2) if False else UInt64(1)
 ";
 
 #[test]
 fn what_says_nothing_is_free(rt: HostRuntime) -> Result<(), Fail> {
     let alloc = rt.alloc();
-    let spelled = SPELLED.replace(alloc, "2 if False else 1", "0b1")?;
+    let spelled = SPELLED.replace(alloc, "UInt64(2) if False else UInt64(1)", "UInt64(0b1)")?;
     assert_eq!(rt;
         is_built(
             alloc,

@@ -6,6 +6,12 @@ use std::test::Fail;
 const FRONT: &str =
     "from algopy import Contract, UInt64\nclass T(Contract):\n    def approval_program(self) -> UInt64:\n        return ";
 
+const IMPORTS: &str =
+    "from algopy import BoxRef, Bytes, Contract, GlobalState, Txn, UInt64, log, op, subroutine, urange
+class T(Contract):
+    def approval_program(self) -> UInt64:
+        ";
+
 const BACK: &str = "\n    def clear_state_program(self) -> UInt64:\n        return UInt64(1)\n";
 
 const ADDRESS: &str = "0000000000000000000000000000000000000000000000000000000000000000";
@@ -130,11 +136,17 @@ fn one_operation_is_compiled_and_run(rt: HostRuntime) -> Result<(), Fail> {
 }
 
 /// Sources without a contract of the form.
-const SOURCES: [(&str, &str); 4] = [
+const SOURCES: [(&str, &str); 7] = [
     ("x = y", "s.py:1:5: P07 syntax\n"),
     ("  x = 1", "s.py:1:3: P03 indentation\n"),
     ("\tx = 1", "s.py:1:1: P02 tab\n"),
-    ("x = 1", "s.py: not built\n"),
+    ("x = 1", "s.py:1:1: P12 contract\n"),
+    ("", "s.py:1:1: P12 contract\n"),
+    (
+        "from algopy import Contract as C\nx = arc4",
+        "s.py:2:5: P07 syntax\n",
+    ),
+    ("from algopy.arc4 import String", "s.py: not built\n"),
 ];
 
 #[test]
@@ -146,6 +158,41 @@ fn a_source_is_refused_before_its_call_file_is_read(rt: HostRuntime) -> Result<(
         let (got_status, got_text) = outcome(alloc, &["call", "s.py", "absent"], &mut files)?;
         assert_eq!(rt; got_status, Status::Source, "{source}");
         assert_eq!(rt; got_text.as_str(), text, "{source}");
+    }
+    Ok(())
+}
+
+/// Bodies of `approval_program`, and what is answered.
+const RULES: [(&str, &str); 8] = [
+    ("return y", "t.py:4:16: P09 unknown name\n"),
+    ("x = 5\n        return UInt64(1)", "t.py:4:13: P14 type\n"),
+    (
+        "if Txn.fee > 0: x = UInt64(1)\n        return x",
+        "t.py:5:16: P17 unassigned\n",
+    ),
+    (
+        "break\n        return UInt64(1)",
+        "t.py:4:9: P19 loop word\n",
+    ),
+    ("return BoxRef()", "t.py: not built\n"),
+    ("return UInt64(1)", "t.py: not built\n"),
+    (
+        "return op.keccak256(Bytes(b\"\"))",
+        "t.py:4:19: P08 left out\n",
+    ),
+    ("5 = y\n        return UInt64(1)", "t.py:4:9: P16 target\n"),
+];
+
+#[test]
+fn the_first_rule_is_named(rt: HostRuntime) -> Result<(), Fail> {
+    let alloc = rt.alloc();
+    for (body, text) in RULES {
+        let mut files = MemoryFiles::new(alloc);
+        let source = format!(in alloc; "{IMPORTS}{body}{BACK}")?;
+        files.add("t.py", source.as_bytes())?;
+        let (got_status, got_text) = outcome(alloc, &CALL, &mut files)?;
+        assert_eq!(rt; got_status, Status::Source, "{body}");
+        assert_eq!(rt; got_text.as_str(), text, "{body}");
     }
     Ok(())
 }

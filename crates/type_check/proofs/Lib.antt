@@ -1,1 +1,7 @@
-mod Rows
+mod Behind
+mod FirstOnes
+mod Params
+mod Lines
+mod Modules
+mod Calling
+mod Answering

@@ -1,5 +1,5 @@
 -- Functions: their variables, their notes, the rules that they break, and the typed function; P10 on variables and P24.
-use Rattle.std.specs.Prelude.{ℕ, ◌+◌, Bool, true, false, not, nat_le, if◌then◌else◌, List, [], ◌∷◌, ◌++◌, map, length, take, drop, Option, Some, None}
+use Rattle.std.specs.Prelude.{ℕ, ◌+◌, Bool, nat_le, if◌then◌else◌, List, [], ◌∷◌, ◌++◌, map, length, take, drop, Option, Some, None}
 use Rattle.puya_base.specs.declared.source.Place.{Place}
 use Rattle.puya_base.specs.declared.source.Rule.TheVariants as rule
 use Rattle.puya_base.specs.declared.source.Refusal.{Refusal}
@@ -12,27 +12,24 @@ use Rattle.py_grammar.specs.declared.module.Func.{Func}
 use Rattle.path_rules.specs.declared.note.Note.{Note}
 use Rattle.path_rules.specs.declared.note.Note.TheVariants as note
 use Rattle.source_names.specs.declared.types.SourceType.{SourceType}
-use Rattle.source_names.specs.declared.named.Entry.{Entry}
 use Rattle.source_names.specs.declared.signature.Parameter.{Parameter}
 use Rattle.source_names.specs.declared.signature.Signature.{Signature}
 use Rattle.source_names.specs.Types.{typed, is_nothing}
 use Rattle.source_names.specs.Faults.{breaks}
-use Rattle.source_headers.specs.Headers.{signature, all_clashes}
+use Rattle.source_headers.specs.Headers.{all_clashes}
 use Rattle.meaning_rules.specs.declared.scope.Scope.{Scope}
 use Rattle.meaning_rules.specs.declared.scope.Local.{Local}
 use Rattle.meaning_rules.specs.declared.scope.Status.{Status}
 use Rattle.meaning_rules.specs.declared.scope.Status.TheVariants as status
-use Rattle.type_check.specs.Lines.{block_of}
-use Rattle.type_check.specs.Targets.{all_targets, first_ones}
-use Rattle.type_check.specs.Statements.{Done, checks, seeing}
+use Rattle.statement_check.specs.Lines.{block_of}
+use Rattle.statement_check.specs.Noting.{target_local}
+use Rattle.statement_check.specs.Targets.{all_targets, first_ones}
+use Rattle.statement_check.specs.Statements.{Done, checks}
 
 -- ---- variables
 
 abbrev pub param_local : Parameter → Local
 param_local p = record { name = p.name; status = status.Fixed p.ty }
-
-abbrev pub target_local : Word → Local
-target_local w = record { name = w.name; status = status.Unseen }
 
 abbrev pub parameter_names : List Parameter → List (List ℕ)
 parameter_names ps = map (λ (p : Parameter). p.name) ps

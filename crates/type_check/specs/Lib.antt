@@ -1,6 +1,4 @@
-pub mod Expressions
-pub mod Lines
-pub mod Targets
-pub mod Statements
 pub mod Functions
 pub mod Whole
+pub mod Firsts
+pub mod Placing

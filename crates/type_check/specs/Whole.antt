@@ -1,5 +1,5 @@
 -- The contracts of a module, and the rules that it breaks.
-use Rattle.std.specs.Prelude.{ℕ, ◌≡◌, ◌+◌, ◌⊎◌, Bool, true, false, if◌then◌else◌, List, [], ◌∷◌, ◌++◌, map, length, Option, Some, None, Result, Ok, Err, Contains, slice_get}
+use Rattle.std.specs.Prelude.{ℕ, ◌≡◌, ◌+◌, Bool, true, false, if◌then◌else◌, List, [], ◌∷◌, ◌++◌, map, length, Option, Some, None, Result, Ok, Err, Contains, slice_get}
 use Rattle.puya_base.specs.declared.source.Refusal.{Refusal}
 use Rattle.puya_base.specs.declared.source.SourceFault.{SourceFault}
 use Rattle.puya_base.specs.declared.source.SourceFault.TheVariants as fault
@@ -10,7 +10,6 @@ use Rattle.py_grammar.specs.declared.module.Class.{Class}
 use Rattle.py_grammar.specs.declared.module.Item.{Item}
 use Rattle.py_grammar.specs.declared.module.Item.TheVariants as item
 use Rattle.py_grammar.specs.declared.module.Module.{Module}
-use Rattle.path_rules.specs.declared.note.Note.{Note}
 use Rattle.path_rules.specs.Rules.{IsBroken, IsFirst}
 use Rattle.source_names.specs.declared.named.Entry.{Entry}
 use Rattle.source_names.specs.declared.signature.Signature.{Signature}
@@ -18,7 +17,7 @@ use Rattle.source_headers.specs.Headers.{signature, divided}
 use Rattle.source_headers.specs.Modules.{entries, constants, signatures, names_faults}
 use Rattle.source_headers.specs.Classes.{Base, a_contract, another, unknown, base_of, functions, methods_from, class_signatures, classes, all_class_faults, no_contract, first_from, is_approval, is_clear, has_myself}
 use Rattle.meaning_rules.specs.declared.scope.Scope.{Scope}
-use Rattle.meaning_rules.specs.declared.scope.Method.{Method}
+use Rattle.expression_check.specs.Sights.{method_of}
 use Rattle.type_check.specs.Functions.{notes_of, end_of, typed_function, body_faults}
 
 -- ---- functions with what they see
@@ -38,9 +37,6 @@ module_functions (_ ∷ is) = module_functions is
 -- what functions of the module see: its names and each other
 abbrev pub module_scope : List Item → Scope
 module_scope is = record { entries = entries is; constants = constants is; functions = signatures (entries is) is; methods = []; myself = false; locals = [] }
-
-abbrev pub method_of : List ℕ × ℕ → Method
-method_of m = record { name = m.0; function = m.1 }
 
 -- what functions of a class see: besides, each other's signatures, and those that are no programs behind `self`
 abbrev pub class_scope : List Item → Class → Func → Scope

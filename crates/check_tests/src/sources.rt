@@ -1,0 +1,382 @@
+//! Sources with the first rule that each breaks, or `ok`, one a line. `;` stands for a line end, and a grave accent before the place of the rule.
+
+ghost use Rattle.std.specs.Prelude.{◌≤◌, length};
+
+use compiler::{CompileFault, compile};
+use puya_base::{Blob, Level, Memory, Place};
+use std::alloc::Global;
+use std::process::Abort;
+use std::test::Fail;
+
+const NOWHERE: Place = Place { line: 0, col: 0 };
+
+/// Bodies of `f(x: UInt64, b: Bytes, c: bool, s: String, a: Account) -> UInt64`.
+const BODIES: &str = r#"P08 b = op.`keccak256(b);return x
+P08 x = UInt64.`from_bytes(b);return x
+P09 return `y
+P09 x = Txn.`foo;return x
+P09 x = op.`foo(x);return x
+P09 x = `foo.bar;return x
+P09 x = x.`foo;return x
+P09 x = f(x, b, c, s, `z=a);return x
+P09 b = op.itob(`x=x);return x
+P09 y: `Foo = x;return x
+P09 x = `self.x;return x
+P09 return 1 + `y
+P09 x = `foo(1);return x
+P09 x = s.`length;return x
+P10 `log = UInt64(1);return x
+ok tuple = x;x = tuple;return x
+P10 `op = x;y = z;return x
+P13 y: `None = x;return x
+P13 y: tuple[UInt64, tuple[`log]] = x;return x
+P13 y = `();return x
+P13 y: `log = x;return x
+P14 y = `5;return x
+P14 x = x + `b;return x
+P14 c = `b < 5;return x
+P14 x = `x / 5;return x
+P14 b = `5 + b;return x
+P14 if `1:;    x = x;return x
+P14 log(`5);return x
+P14 c = not `1;return x
+P14 assert `1;return x
+P14 c = bool(`1);return x
+P14 x = op.bitlen(`1);return x
+P14 x = op.getbit(`1, 0);return x
+P14 return `1 < 2
+P14 return `1 + 2
+P14 y = `5 if c else 6;return x
+P14 `5;return x
+P14 `b"x";return x
+P14 x = `-1;return x
+P14 x = `-1 + x;return x
+P14 y: tuple[UInt64, Bytes] = (1, `2);return x
+ok return 1 if c else 2
+ok b = b[0] + b[1:x] + b[:2];for i in urange(3):;    x = x ** 2 + i;return x
+P14 y = `[x];return x
+P14 c = bool(`a);return x
+P14 c = `not a;return x
+P14 if `a:;    x = x;return x
+ok log(a, x, b, s);return x
+P14 log(`c);return x
+P14 x = UInt64(`x);return x
+ok x = UInt64(c);return x
+P14 b = Bytes(`"a");return x
+P14 c = x in `b;return x
+P14 x = `x(x);return x
+P14 a = `Account(b);return x
+P14 `return
+P14 return `b
+P14 x = `b;return x
+P14 x = `"a";return x
+P14 y = x;y = `b;return x
+P14 y: Bytes;y = `x;return x
+P14 y = x;y: `Bytes;return x
+ok "a";("b");return x
+P14 y = `op;return x
+P14 y = `UInt64;return x
+P14 assert c, `x;return x
+P14 assert c, `5;return x
+P14 t = (x, b);x = t[`2];return x
+P14 t = (x, b);x = t[`x];return x
+P14 x = `x[0];return x
+P14 x = `x[0:1];return x
+P14 b = Bytes.from_hex(`"0");return x
+ok b = Bytes.from_hex("00fF");return x
+P14 for i in `x:;    x = i;return x
+P14 for i in `"abc":;    x = x;return x
+P14 for `b in urange(x):;    x = x;return x
+P14 for i in b:;    x = `i;return x
+P14 while `1:;    x = x;return x
+P14 y = x if c else `b;return x
+P14 x = `x,;return x
+P14 x = `(x,);return x
+ok x = (x);(x) = 1;if (True):;    x = (2);return x
+P14 b = b[`1,];return x
+P14 (x, b) = `(x,);return x
+P14 x, b = `b, x;return x
+P14 x, b = `x;return x
+P14 x += `b;return x
+P14 `b -= 1;return x
+ok x += 1;x **= 2;return x
+ok h, l = op.addw(x, 1);x = h + l;return x
+ok x = Txn.application_id.id + Global.current_application_id.id;return x
+P14 y = `Txn.application_id;return x
+ok x = OnCompleteAction.OptIn + Txn.fee;a = Txn.sender;b = Txn.application_args(0);return x
+ok x = op.getbit(x, 1) + op.getbit(b, 0);return x
+P14 b = op.setbit_bytes(b, 0, `True);return x
+P15 x = `UInt64(1, 2);return x
+P15 x = `f(x, b, c, s);return x
+P15 x = `f(x, b, c, s, a, a);return x
+P15 x = f(x, b, c, s, a, `x=x);return x
+P15 x = f(x, b, c, a=a, `s);return x
+ok x = f(s=s, b=b, a=a, x=1, c=c);return x
+P15 for i in urange(1, 2, `0):;    x = i;return x
+P15 for i in urange(1, 2, `x):;    x = i;return x
+P15 for i in `urange():;    x = x;return x
+P15 b = `op.itob();return x
+P15 `log();return x
+P16 `5 = x;return x
+P16 del `x;return x
+P16 `b.length = x;return x
+P16 `b.length: UInt64 = x;return x
+P16 `x, b: UInt64;return x
+P16 `x, b += 1;return x
+P16 x, `5 = x, x;return x
+P17 if c:;    y = x;return `y
+ok if c:;    y = x;else:;    y = x + 1;return y
+P17 while c:;    y = x;return `y
+P17 for i in urange(3):;    x = i;return `i
+P17 i = x;for i in urange(3):;    x = i;return `i
+ok while True:;    y = x;    if c:;        break;return y
+P17 while True:;    if c:;        break;    y = x;return `y
+P17 x = `y;y = x;return x
+P17 y = `y + x;return x
+P17 while not False:;    y = x;    if c:;        break;return `y
+P17 return x;x = `y;y = x
+P17 y: UInt64;x = `y;return x
+P17 while c:;    if c:;        x = `y;    y = x;return x
+P19 `break;return x
+P19 if c:;    `continue;return x
+ok while c:;    if c:;        break;    continue;return x
+P17 while bool(True):;    y = x;    if c:;        break;return `y
+ok x = x;return x
+P14 y = `C;return x
+P14 y = `f;return x
+P14 y = `C();return x
+P09 y = f.`x;return x
+P09 y = UInt64.`x;return x
+ok x = f(x, b, c, s, a) + op.itob(x).length;b = a.bytes + s.bytes;return x
+P10 b = b;`Txn = x;return x
+P17 while True:;    while c:;        break;    if c:;        break;    y = x;return `y
+ok y = x;while y < 5:;    if c:;        y += 1;        continue;    y += 2;return y
+P14 if c:;    x = x;elif x == 1:;    x = x;elif b == `1:;    x = x;else:;    x = x;return x
+P14 c = x not in `b;return x
+P14 c = `x and c;return x
+P14 c = c and `x;return x
+P13 y: `tuple[tuple[tuple[tuple[tuple[tuple[tuple[tuple[tuple[tuple[tuple[tuple[tuple[tuple[tuple[tuple[tuple[tuple[tuple[tuple[tuple[tuple[tuple[tuple[tuple[tuple[tuple[tuple[tuple[tuple[tuple[tuple[tuple[UInt64]]]]]]]]]]]]]]]]]]]]]]]]]]]]]]]]] = x;return x
+ok x = x ** 2 << 1 >> 1 | x & ~x ^ 1;return x
+ok c = s == "a" and "b" != s and b == b"a" and a == a and c == True;return x
+P14 c = `a < a;return x
+P14 c = `s < "a";return x
+P14 c = `(x, x) == (x, x);return x
+P14 x = (`1 + 2) + x;return x
+P14 x = x if c else `"a";return x
+P09 x = f(x, b, c, s, a=`y);return x
+P09 x = f(x, b, c, s, `y=z);return x
+P14 for i in `s:;    x = x;return x
+P14 b = b[x:`a];return x
+ok b = b[:];return x
+P14 x = `b"abc".length;return x
+"#;
+
+/// What stands between the imports and a contract.
+const LINES: &str = r#"P10 @subroutine;def f(a: UInt64, `a: UInt64) -> UInt64:;    return a
+P10 @subroutine;def f() -> UInt64:;    return UInt64(1);@subroutine;def `f() -> UInt64:;    return UInt64(1)
+P10 `op = 5
+P10 @subroutine;def f(`log: UInt64) -> UInt64:;    return log
+P13 @subroutine;def f(`x) -> UInt64:;    return UInt64(1)
+P13 `@subroutine;def f(x: UInt64):;    return x
+P13 @subroutine;def f(`self) -> UInt64:;    return UInt64(1)
+ok @subroutine;def f(x: UInt64) -> tuple[UInt64, UInt64]:;    return 1, x
+P14 @subroutine;def g() -> None:;    pass;@subroutine;def f() -> UInt64:;    y = `g();    return UInt64(1)
+P14 @subroutine;def g() -> None:;    pass;@subroutine;def f() -> UInt64:;    return `g()
+ok @subroutine;def g() -> None:;    return;@subroutine;def f() -> UInt64:;    g();    return UInt64(1)
+P14 @subroutine;def g(x: UInt64) -> None:;    return `x
+ok T = "no";@subroutine;def f(c: bool) -> bool:;    assert c, T;    return c
+ok T = True;@subroutine;def f(x: UInt64) -> UInt64:;    while (T):;        y = x;        if y < 5:;            break;    return y
+P18 @subroutine;def `f() -> UInt64:;    pass
+P18 @subroutine;def `f(c: bool) -> UInt64:;    if c:;        return UInt64(1)
+ok @subroutine;def f(c: bool) -> UInt64:;    while True:;        if c:;            return UInt64(1)
+P18 @subroutine;def `f(c: bool) -> UInt64:;    while True:;        if c:;            break
+ok @subroutine;def g(x: UInt64) -> None:;    x = x + 1
+P18 @subroutine;def `f(x: UInt64) -> UInt64:;    x = x + y
+P22 `def f() -> UInt64:;    return UInt64(1)
+P22 @`log;def f() -> UInt64:;    return UInt64(1)
+P22 @subroutine;@`subroutine;def f() -> UInt64:;    return UInt64(1)
+P22 @`subroutine();def f() -> UInt64:;    return UInt64(1)
+ok @subroutine;def f() -> UInt64:;    return g() + N;@subroutine;def g() -> UInt64:;    return UInt64(1);N = 5
+P14 N = 5;@subroutine;def f(x: UInt64) -> UInt64:;    y = `N;    return x + N
+P14 @subroutine;def f(x: UInt64) -> UInt64:;    y = `5;    return z;@subroutine;def g(log: UInt64) -> UInt64:;    pass
+P10 @subroutine;def f(x: UInt64) -> UInt64:;    `log += 1;    return x
+ok @subroutine;def f(self: UInt64) -> UInt64:;    return self + 1
+ok tuple = 5;@subroutine;def f() -> UInt64:;    return tuple
+P09 @`foo;def f() -> UInt64:;    return UInt64(1)
+"#;
+
+/// Whole sources.
+const SOURCES: &str =
+    r#"P08 from algopy import Contract, `BigUInt, UInt64;class C(Contract):;    def approval_program(self) -> UInt64:;        return UInt64(1);    def clear_state_program(self) -> UInt64:;        return UInt64(1)
+P09 from algopy import Contract, UInt64, `Foo;class C(Contract):;    def approval_program(self) -> UInt64:;        return UInt64(1);    def clear_state_program(self) -> UInt64:;        return UInt64(1)
+P09 from algopy import Account, Bytes, Contract, Global, OnCompleteAction, String, Txn, UInt64, log, op, subroutine, urange;class C(Contract):;    def approval_program(self) -> UInt64:;        return self.`clear_state_program();    def clear_state_program(self) -> UInt64:;        return UInt64(1)
+P09 from algopy import Account, Bytes, Contract, Global, OnCompleteAction, String, Txn, UInt64, log, op, subroutine, urange;class C(Contract):;    def approval_program(self) -> UInt64:;        return self.`foo;    def clear_state_program(self) -> UInt64:;        return UInt64(1)
+P10 from algopy import Account, Bytes, Contract, Global, OnCompleteAction, String, Txn, UInt64, log, op, subroutine, urange;class C(Contract):;    def approval_program(self) -> UInt64:;        return UInt64(1);    def clear_state_program(self) -> UInt64:;        return UInt64(1);    def `clear_state_program(self) -> UInt64:;        return UInt64(1)
+P11 `import algopy;from algopy import Account, Bytes, Contract, Global, OnCompleteAction, String, Txn, UInt64, log, op, subroutine, urange;class C(Contract):;    def approval_program(self) -> UInt64:;        return UInt64(1);    def clear_state_program(self) -> UInt64:;        return UInt64(1)
+P11 `from os import path;from algopy import Account, Bytes, Contract, Global, OnCompleteAction, String, Txn, UInt64, log, op, subroutine, urange;class C(Contract):;    def approval_program(self) -> UInt64:;        return UInt64(1);    def clear_state_program(self) -> UInt64:;        return UInt64(1)
+ok import typing;from typing import Literal;from algopy import Account, Bytes, Contract, Global, OnCompleteAction, String, Txn, UInt64, log, op, subroutine, urange;class C(Contract):;    def approval_program(self) -> UInt64:;        return UInt64(1);    def clear_state_program(self) -> UInt64:;        return UInt64(1)
+P12 `from algopy import UInt64, subroutine;@subroutine;def f() -> UInt64:;    return UInt64(1)
+P12 from algopy import Account, Bytes, Contract, Global, OnCompleteAction, String, Txn, UInt64, log, op, subroutine, urange;class C(Contract):;    def approval_program(self) -> UInt64:;        return UInt64(1);    def clear_state_program(self) -> UInt64:;        return UInt64(1);class `T(UInt64):;    pass
+P12 from algopy import Account, Bytes, Contract, Global, OnCompleteAction, String, Txn, UInt64, log, op, subroutine, urange;class `C(Contract):;    def approval_program(self) -> UInt64:;        return UInt64(1)
+P12 from algopy import Account, Bytes, Contract, Global, OnCompleteAction, String, Txn, UInt64, log, op, subroutine, urange;class C(Contract):;    `def approval_program(self, x: UInt64) -> UInt64:;        return UInt64(1);    def clear_state_program(self) -> UInt64:;        return UInt64(1)
+P12 from algopy import Account, Bytes, Contract, Global, OnCompleteAction, String, Txn, UInt64, log, op, subroutine, urange;class C(Contract):;    `def approval_program(self) -> Bytes:;        return b"a";    def clear_state_program(self) -> UInt64:;        return UInt64(1)
+P12 from algopy import Account, Bytes, Contract, Global, OnCompleteAction, String, Txn, UInt64, log, op, subroutine, urange;class C(Contract):;    def approval_program(self) -> UInt64:;        return UInt64(1);    def clear_state_program(self) -> UInt64:;        return UInt64(1);    `x: UInt64
+P12 from algopy import Account, Bytes, Contract, Global, OnCompleteAction, String, Txn, UInt64, log, op, subroutine, urange;class C(Contract):;    def approval_program(self) -> UInt64:;        return UInt64(1);    def clear_state_program(self) -> UInt64:;        return UInt64(1);    `@subroutine;    def f(x: UInt64) -> UInt64:;        return x
+P16 from algopy import Account, Bytes, Contract, Global, OnCompleteAction, String, Txn, UInt64, log, op, subroutine, urange;class C(Contract):;    def approval_program(self) -> UInt64:;        `self = UInt64(1);        return UInt64(1);    def clear_state_program(self) -> UInt64:;        return UInt64(1)
+P16 from algopy import Account, Bytes, Contract, Global, OnCompleteAction, String, Txn, UInt64, log, op, subroutine, urange;class C(Contract):;    def approval_program(self) -> UInt64:;        for `self in urange(3):;            pass;        return UInt64(1);    def clear_state_program(self) -> UInt64:;        return UInt64(1)
+P22 from algopy import Account, Bytes, Contract, Global, OnCompleteAction, String, Txn, UInt64, log, op, subroutine, urange;class C(Contract):;    @`subroutine;    def approval_program(self) -> UInt64:;        return UInt64(1);    def clear_state_program(self) -> UInt64:;        return UInt64(1)
+P22 from algopy import Account, Bytes, Contract, Global, OnCompleteAction, String, Txn, UInt64, log, op, subroutine, urange;class C(Contract):;    def approval_program(self) -> UInt64:;        return UInt64(1);    def clear_state_program(self) -> UInt64:;        return UInt64(1);    `def f(self) -> UInt64:;        return UInt64(1)
+ok from algopy import Account, Bytes, Contract, Global, OnCompleteAction, String, Txn, UInt64, log, op, subroutine, urange;class C(Contract):;    def approval_program(self) -> UInt64:;        return self.f(1);    def clear_state_program(self) -> UInt64:;        return UInt64(1);    @subroutine;    def f(self, x: UInt64) -> UInt64:;        return self.f(x - 1) if x > 0 else x
+ok from algopy import Account, Bytes, Contract, Global, OnCompleteAction, String, Txn, UInt64, log, op, subroutine, urange;class C(Contract):;    def approval_program(self) -> UInt64:;        return UInt64(1);    def clear_state_program(self) -> UInt64:;        return UInt64(1);class D(Contract):;    def approval_program(self) -> UInt64:;        return UInt64(1);    def clear_state_program(self) -> UInt64:;        return UInt64(1)
+P12 from algopy import Account, Bytes, Contract, Global, OnCompleteAction, String, Txn, UInt64, log, op, subroutine, urange;class C(Contract):;    `def approval_program(self) -> String:;        return "a";    def clear_state_program(self) -> UInt64:;        return UInt64(1);class D(UInt64):;    pass
+P16 from algopy import Account, Bytes, Contract, Global, OnCompleteAction, String, Txn, UInt64, log, op, subroutine, urange;class C(Contract):;    def approval_program(self) -> UInt64:;        `self.x: UInt64 = UInt64(1);        return UInt64(1);    def clear_state_program(self) -> UInt64:;        return UInt64(1)
+P09 from algopy import Account, Bytes, Contract, Global, OnCompleteAction, String, Txn, UInt64, log, op, subroutine, urange;class C(Contract):;    def approval_program(self) -> UInt64:;        self.`z = UInt64(1);        return UInt64(1);    def clear_state_program(self) -> UInt64:;        return UInt64(1)
+P15 from algopy import Account, Bytes, Contract, Global, OnCompleteAction, String, Txn, UInt64, log, op, subroutine, urange;class C(Contract):;    def approval_program(self) -> UInt64:;        return `self.f();    def clear_state_program(self) -> UInt64:;        return UInt64(1);    @subroutine;    def f(self, x: UInt64) -> UInt64:;        return x
+P13 from typing import Literal;from algopy import Account, Bytes, Contract, Global, OnCompleteAction, String, Txn, UInt64, log, op, subroutine, urange;@subroutine;def f(x: `Literal[5]) -> UInt64:;    return UInt64(1);class C(Contract):;    def approval_program(self) -> UInt64:;        return UInt64(1);    def clear_state_program(self) -> UInt64:;        return UInt64(1)
+"#;
+
+/// As LINES; `~` stands for 98 parameters, `a0` the first.
+const WIDE: &str = r#"P24 @subroutine;def `f(~, y: UInt64, z: UInt64) -> UInt64:;    return y
+ok @subroutine;def f(~, y: UInt64) -> UInt64:;    return y
+P14 @subroutine;def f(~, y: UInt64, z: UInt64) -> UInt64:;    return `b"a"
+P24 @subroutine;def `f(~) -> UInt64:;    for i in urange(3):;        a0 = i;    return a0
+P24 @subroutine;def `f(~, y: UInt64) -> UInt64:;    z: UInt64;    return y
+"#;
+
+const IMPORTS: &str =
+    "from algopy import Account, Bytes, Contract, Global, OnCompleteAction, String, Txn, UInt64, log, op, subroutine, urange;";
+
+const HEAD: &str =
+    "@subroutine;def f(x: UInt64, b: Bytes, c: bool, s: String, a: Account) -> UInt64:;    ";
+
+const CONTRACT: &str =
+    "class C(Contract):;    def approval_program(self) -> UInt64:;        return UInt64(1);    def clear_state_program(self) -> UInt64:;        return UInt64(1)";
+
+/// The source of a row, and the place that it marks.
+fn read(alloc: Global, row: &str) -> Result<(Blob, Place), Memory> {
+    let mut source = Blob::new(alloc);
+    let mut here = Place { line: 1, col: 1 };
+    let mut marked = NOWHERE;
+    for byte in row.as_bytes() {
+        if *byte == b'`' {
+            marked = here;
+        } else if *byte == b';' {
+            source.push(b'\n')?;
+            here = Place {
+                line: here.line.saturating_add(1),
+                col: 1,
+            };
+        } else {
+            source.push(*byte)?;
+            here.col = here.col.saturating_add(1);
+        }
+    }
+    Ok((source, marked))
+}
+
+/// What is answered, as a row says it, and where.
+fn answer(alloc: Global, source: &[u8]) -> Result<(String, Place), Fail>
+    requires { length source.now ≤ 1048576 }
+{
+    match compile(alloc, source, Level::L0) {
+        Ok(_) => Ok((String::from_str(alloc, "built")?, NOWHERE)),
+        Err(CompileFault::NotBuilt) => Ok((String::from_str(alloc, "ok")?, NOWHERE)),
+        Err(CompileFault::Refused(refusal)) => {
+            let rule = refusal.rule;
+            Ok((format!(in alloc; "{rule:?}")?, refusal.place))
+        }
+        Err(CompileFault::Memory) => Ok((String::from_str(alloc, "memory")?, NOWHERE)),
+    }
+}
+
+fn check(rt: &impl Abort, alloc: Global, rule: &str, row: &str) -> Result<(), Fail> {
+    let (source, marked) = read(alloc, row)?;
+    assert!(rt; source.len() <= 1_048_576);
+    let (said, place) = answer(alloc, source.as_slice())?;
+    assert_eq!(rt; said.as_str(), rule, "{row}");
+    assert_eq!(rt; (place.line, place.col), (marked.line, marked.col), "{row}");
+    Ok(())
+}
+
+#[test]
+fn bodies(rt: HostRuntime) -> Result<(), Fail> {
+    let alloc = rt.alloc();
+    for row in BODIES.lines() {
+        if let Some((rule, body)) = row.split_once(' ') {
+            let body = body.replace(alloc, ";", ";    ")?;
+            let source = format!(in alloc; "{IMPORTS}{HEAD}{body};{CONTRACT}")?;
+            check(&rt, alloc, rule, source.as_str())?;
+        }
+    }
+    Ok(())
+}
+
+/// A row of what stands between the imports and a contract.
+fn check_lines(rt: &impl Abort, alloc: Global, row: &str) -> Result<(), Fail> {
+    if let Some((rule, lines)) = row.split_once(' ') {
+        let source = format!(in alloc; "{IMPORTS}{lines};{CONTRACT}")?;
+        check(rt, alloc, rule, source.as_str())?;
+    }
+    Ok(())
+}
+
+#[test]
+fn lines(rt: HostRuntime) -> Result<(), Fail> {
+    for row in LINES.lines() {
+        check_lines(&rt, rt.alloc(), row)?;
+    }
+    Ok(())
+}
+
+fn parameters(alloc: Global) -> Result<String, Memory> {
+    let mut all = String::from_str(alloc, "a0: UInt64")?;
+    for i in 1..98 {
+        all.push_str(format!(in alloc; ", a{i}: UInt64")?.as_str())?;
+    }
+    Ok(all)
+}
+
+#[test]
+fn many_parameters(rt: HostRuntime) -> Result<(), Fail> {
+    let alloc = rt.alloc();
+    let all = parameters(alloc)?;
+    for row in WIDE.lines() {
+        check_lines(&rt, alloc, row.replace(alloc, "~", all.as_str())?.as_str())?;
+    }
+    Ok(())
+}
+
+fn long_text(alloc: Global, length: u32) -> Result<String, Memory> {
+    let mut text = String::new(alloc);
+    for _ in 0..length {
+        text.push('a')?;
+    }
+    Ok(text)
+}
+
+#[test]
+fn long_literals(rt: HostRuntime) -> Result<(), Fail> {
+    let alloc = rt.alloc();
+    let fits = long_text(alloc, 4096)?;
+    check_lines(
+        &rt,
+        alloc,
+        format!(in alloc; "ok B = b\"{fits}\"")?.as_str(),
+    )?;
+    let long = long_text(alloc, 4097)?;
+    check_lines(
+        &rt,
+        alloc,
+        format!(in alloc; "P14 B = `b\"{long}\"")?.as_str(),
+    )
+}
+
+#[test]
+fn sources(rt: HostRuntime) -> Result<(), Fail> {
+    for row in SOURCES.lines() {
+        if let Some((rule, source)) = row.split_once(' ') {
+            check(&rt, rt.alloc(), rule, source)?;
+        }
+    }
+    Ok(())
+}

@@ -1,0 +1,9 @@
+mod Behind
+mod Variables
+mod Trees
+mod Walks
+pub mod Depths
+mod Finding
+mod Members
+mod Shapes
+mod Told

@@ -1,0 +1,4 @@
+pub mod Equalities
+pub mod Indexed
+pub mod Reading
+pub mod CopyLaws

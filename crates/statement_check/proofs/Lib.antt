@@ -1,0 +1,10 @@
+mod Rows
+mod Behind
+mod Seeing
+mod Blocks
+mod Stepping
+mod Arms
+mod Turns
+mod Naming
+mod Adding
+mod Fitting

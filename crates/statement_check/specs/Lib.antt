@@ -1,0 +1,11 @@
+pub mod Lines
+pub mod Targets
+pub mod Statements
+pub mod Noting
+pub mod Parting
+pub mod Updating
+pub mod Annotating
+pub mod Simples
+pub mod Looping
+pub mod Checking
+pub mod Frames
