@@ -3,7 +3,6 @@ mod Variables
 mod Trees
 mod Walks
 pub mod Depths
-mod Finding
 mod Members
 mod Shapes
 mod Told

@@ -11,7 +11,7 @@ ghost use Rattle.expression_check.specs.Variables.{fixed, local_names};
 use indexmap::IndexMap;
 use meaning_rules::{Local, Status};
 use puya_base::Memory;
-use source_names::{NameSet, SourceType};
+use source_names::{NameSet, SourceType, note};
 use std::alloc::Global;
 use std::marker::Model;
 
@@ -110,23 +110,6 @@ fn is_unseen(status: &Status) -> bool
         Status::Unseen => true,
         Status::Fixed(_) => false,
     }
-}
-
-/// Gives a name a number, unless it has one.
-fn note(
-    alloc: Global,
-    numbers: &mut IndexMap<String, u32>,
-    name: &str,
-    number: u32,
-) -> Result<(), Memory>
-    ensures { OnOk result ((n : List ℕ) → get_by_text numbers.new n ≡ first_of (get_by_text numbers.old n) (value_at name.now number n)) }
-{
-    if numbers.contains_key(name) {
-        return Ok(());
-    }
-    let name = String::from_str(alloc, name)?;
-    numbers.insert(name, number)?;
-    Ok(())
 }
 
 fn next_number(number: u32) -> Result<u32, Memory>

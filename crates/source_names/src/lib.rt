@@ -21,6 +21,7 @@ pub use constant::Constant;
 pub use faults::break_rule;
 pub use limits::fits_limits;
 pub use literals::{is_short, joined, number_of};
+pub use lookup::note;
 pub use methods::{Method, Methods, member_of};
 pub use module_names::ModuleNames;
 pub use name_set::NameSet;

@@ -9,7 +9,7 @@ use puya_base::Memory;
 use std::alloc::Global;
 
 /// Gives a name a value, unless it has one.
-pub(crate) fn note<T: Copy>(
+pub fn note<T: Copy>(
     alloc: Global,
     map: &mut IndexMap<String, T>,
     name: &str,

@@ -1,6 +1,6 @@
 mod Rows
 mod Behind
-mod Seeing
+pub mod Seeing
 mod Blocks
 mod Stepping
 mod Arms

@@ -11,7 +11,7 @@ loop-local-preserved c =
     let is = c.local-item.is ∙ ap (λ xs. get_or xs c.loop-local.local-index c.local-item.result) c.deref-local-items.ensures.value in
     record {
       count = c.in_ok-number.ensures ∙ ap (λ k. k + 1) c.loop-local.invariant.count;
-      numbers = λ n. number_next c.args.list.items c.loop-local.local-index c.local-item.result n (get_by_text c.loop-local.numbers n) (get_by_text c.note-in-loop-local.new.numbers n) is low
+      numbers = λ n. number_next c.args.list.items c.loop-local.local-index c.local-item.result n (get_by_text c.loop-local.numbers n) (get_by_text c.note-in-loop-local.new.map n) is low
           (c.loop-local.invariant.numbers n)
           (c.in_ok-note-2.ensures n ∙ ap (λ m. first_of (get_by_text c.loop-local.numbers n) (value_at m c.loop-local.number n)) c.as_str-in-loop-local.ensures
           ∙ ap (λ k. first_of (get_by_text c.loop-local.numbers n) (value_at c.local-item.result.name k n)) c.loop-local.invariant.count);
