@@ -27,7 +27,7 @@ pub use subscripts::{
 pub use telling::{
     break_rule, breaks, expr_in, node, of_one, scalar_node, scalar_value, small, value_breaks,
 };
-pub use types::{copied, is_scalar, scalar_of};
+pub use types::{copied, is_scalar, scalar_of, tree_type};
 pub use values::{
     as_operand, condition, fits_type, fits_when, hoped, lit_node, literal, literal_as, settled,
     value,

@@ -67,7 +67,7 @@ pub(crate) fn typed_scalar(scalar: Scalar) -> Ty
 
 /// The type of typed trees for a type.
 #[cycle(typed)]
-pub(crate) fn tree_type(alloc: Global, ty: &SourceType) -> Result<Ty, Memory>
+pub fn tree_type(alloc: Global, ty: &SourceType) -> Result<Ty, Memory>
     ensures { IfOk result (λ t. t ≡ spec.typed ty.now) }
 {
     match ty {

@@ -2,6 +2,7 @@
 use Rattle.std.specs.Prelude.{ℕ, Bool, if◌then◌else◌, List, [], ◌∷◌, ◌++◌, Option, Some, None}
 use Rattle.puya_base.specs.declared.source.Place.{Place}
 use Rattle.puya_base.specs.declared.source.Rule.TheVariants as rule
+use Rattle.awst.specs.declared.ty.Ty.{Ty}
 use Rattle.awst.specs.declared.statement.Stmt.{Stmt}
 use Rattle.awst.specs.declared.statement.StmtKind.TheVariants as kind
 use Rattle.awst.specs.declared.statement.Target.TheVariants as target
@@ -18,7 +19,7 @@ use Rattle.meaning_rules.specs.declared.scope.Status.TheVariants as status
 use Rattle.meaning_rules.specs.Meanings.{Valued, broken, fits_when, freely}
 use Rattle.expression_check.specs.Expressions.{judge}
 use Rattle.statement_check.specs.Targets.{target_name}
-use Rattle.statement_check.specs.Statements.{Done, done, is_known, none_taken, of_typed, slot_notes, taken, type_in, variable_of}
+use Rattle.statement_check.specs.Statements.{Done, done, first_type, is_known, none_taken, of_typed, slot_notes, taken, type_in, variable_of}
 use Rattle.expression_check.specs.Variables.{fixed, status_at}
 
 -- statements behind others, where all are known
@@ -60,3 +61,8 @@ taken_tuple ls is (Some ts) = (taken ls is ts).locals
 abbrev pub taken_all : List Local → List (Option ℕ) → Option (List SourceType) → Option Bool
 taken_all ls is None = None
 taken_all ls is (Some ts) = Some (taken ls is ts).all
+
+-- the type of the first part, where there are parts
+abbrev pub first_of_parts : Option (List SourceType) → Option Ty
+first_of_parts None = None
+first_of_parts (Some ts) = first_type ts

@@ -6,6 +6,9 @@ use Rattle.puya_base.specs.declared.source.Rule.TheVariants as rule
 use Rattle.awst.specs.declared.expression.Expr.{Expr}
 use Rattle.awst.specs.declared.expression.ExprKind.{ExprKind, out-ExprKind}
 use Rattle.awst.specs.declared.expression.ExprKind.TheOpen.{ExprKind-F}
+use Rattle.awst.specs.declared.expression.ExprKind.TheVariants as value_kind
+use Rattle.awst.specs.declared.expression.Index.TheVariants as item
+use Rattle.awst.specs.declared.ty.Ty.{Ty}
 use Rattle.awst.specs.declared.statement.Stmt.{Stmt}
 use Rattle.awst.specs.declared.statement.StmtKind.{StmtKind}
 use Rattle.awst.specs.declared.statement.StmtKind.TheVariants as kind
@@ -23,7 +26,7 @@ use Rattle.path_rules.specs.declared.note.NoteArm.{NoteArm}
 use Rattle.path_rules.specs.declared.note.Note.TheVariants as note
 use Rattle.source_names.specs.declared.types.SourceType.{SourceType}
 use Rattle.source_names.specs.declared.types.SourceType.TheVariants as ty
-use Rattle.source_names.specs.Types.{same_type, scalar_of, tuple_parts, is_nothing}
+use Rattle.source_names.specs.Types.{same_type, scalar_of, tuple_parts, is_nothing, typed}
 use Rattle.source_names.specs.Annotations.{written, of_value}
 use Rattle.source_names.specs.Source.{Ex, Exs, no_exprs, an_expr, does, place_of}
 use Rattle.meaning_rules.specs.declared.meaning.Hope.{Hope}
@@ -191,17 +194,35 @@ abbrev pub slot_targets : List (Option ℕ) → Option (List Target)
 slot_targets [] = Some []
 slot_targets (i ∷ is) = both_targets i (slot_targets is)
 
-abbrev pub unpack_typed : Place → Bool → Option (List Target) → Typed → Option (List Stmt)
-unpack_typed p true (Some ts) t = Some (stmt p (kind.Assign ts None t.expr))
-unpack_typed p true None t = None
-unpack_typed p false ts t = None
+-- the type of a tuple's first part
+abbrev pub first_type : List SourceType → Option Ty
+first_type [] = None
+first_type (u ∷ us) = Some (typed u)
+
+abbrev pub first_part : Typed → Ty → Expr
+first_part t u = record { place = t.expr.place; ty = u; kind = value_kind.Item t.expr (item.Fixed 0) }
+
+abbrev pub unpack_one : Place → Target → Option Ty → Typed → Option (List Stmt)
+unpack_one p a None t = None
+unpack_one p a (Some u) t = Some (stmt p (kind.Assign (a ∷ []) None (first_part t u)))
+
+-- no target drops the value, one target takes the first part, and several take a part each
+abbrev pub unpack_to : Place → List Target → Option Ty → Typed → Option (List Stmt)
+unpack_to p [] u t = Some (stmt p (kind.Drop t.expr))
+unpack_to p (a ∷ []) u t = unpack_one p a u t
+unpack_to p (a ∷ b ∷ as_) u t = Some (stmt p (kind.Assign (a ∷ b ∷ as_) None t.expr))
+
+abbrev pub unpack_typed : Place → Bool → Option (List Target) → Option Ty → Typed → Option (List Stmt)
+unpack_typed p true (Some as_) u t = unpack_to p as_ u t
+unpack_typed p true None u t = None
+unpack_typed p false as_ u t = None
 
 -- P14 on a value that is no tuple of so many parts, or one of which has another type than its variable
 abbrev pub unpacked_parts : List Local → Place → List (Option ℕ) → Typed → Option (List SourceType) → Done
 unpacked_parts ls p is t None = done (none_taken ls is) (broken rule.P14 t.expr.place ∷ all_assigned is) None
 unpacked_parts ls p is t (Some ts) =
     let r = taken ls is ts in
-    done r.locals ((if r.all then [] else broken rule.P14 t.expr.place ∷ []) ++ all_assigned is) (unpack_typed p r.all (slot_targets is) t)
+    done r.locals ((if r.all then [] else broken rule.P14 t.expr.place ∷ []) ++ all_assigned is) (unpack_typed p r.all (slot_targets is) (first_type ts) t)
 
 abbrev pub unpacked_value : List Local → Place → List (Option ℕ) → Option Typed → Done
 unpacked_value ls p is None = done (none_taken ls is) (all_assigned is) None

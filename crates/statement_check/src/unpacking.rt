@@ -16,11 +16,13 @@ use crate::places::exprs_place;
 use crate::stating::one_stmt;
 use crate::targets::{exprs_name, exprs_unpacked, target_name};
 use crate::values::exprs_value;
-use awst::{StmtKind, Stmts, Target, Targets};
+use awst::{Expr, ExprKind, Index, StmtKind, Stmts, Target, Targets, Ty};
 use expression_check::{Locals, Sight, tuple_parts};
-use meaning_rules::{Context, Expect, Hope, Local, Status, Typed, break_rule, copied, expr_in};
+use meaning_rules::{
+    Context, Expect, Hope, Local, Status, Typed, break_rule, copied, expr_in, tree_type,
+};
 use path_rules::Notes;
-use puya_base::{List, Memory, Place, Rule};
+use puya_base::{Boxed, List, Memory, Place, Rule};
 use py_grammar::{Exprs, Tree};
 use source_names::{SourceType, same_type};
 use std::alloc::Global;
@@ -225,20 +227,70 @@ fn slot_targets(alloc: Global, numbers: &[Option<u32>]) -> Result<Option<Targets
     Ok(Some(targets))
 }
 
-fn unpack_stmt(
+/// The first part of a value, which has this type.
+fn first_part(alloc: Global, typed: Typed, ty: Ty) -> Result<Expr, Memory>
+    ensures { IfOk result (λ e. e ≡ spec.first_part typed ty) }
+{
+    let value = expr_in(typed);
+    let place = value.place;
+    let value = Boxed::new(alloc, value)?;
+    Ok(Expr {
+        place,
+        ty,
+        kind: ExprKind::Item(value, Index::Fixed(0)),
+    })
+}
+
+fn unpack_one(
     alloc: Global,
     place: Place,
-    targets: Option<Targets>,
+    targets: Targets,
+    first: Option<Ty>,
     typed: Typed,
 ) -> Result<Option<Stmts>, Memory>
-    ensures { IfOk result (λ ss. ss ≡ spec.unpack_typed place true targets typed) }
+    ensures { (a : Target) → targets ≡ a ∷ [] → IfOk result (λ ss. ss ≡ spec.unpack_one place a first typed) }
 {
-    match targets {
-        Some(targets) => one_stmt(
+    match first {
+        Some(ty) => {
+            let part = first_part(alloc, typed, ty)?;
+            one_stmt(alloc, place, StmtKind::Assign(targets, None, part))
+        }
+        None => Ok(None),
+    }
+}
+
+/// The statement of an unpacking to these targets: without any the value is dropped, and a single one takes the first part.
+fn unpack_to(
+    alloc: Global,
+    place: Place,
+    targets: Targets,
+    first: Option<Ty>,
+    typed: Typed,
+) -> Result<Option<Stmts>, Memory>
+    ensures { IfOk result (λ ss. ss ≡ spec.unpack_to place targets first typed) }
+{
+    match targets.as_slice() {
+        [] => one_stmt(alloc, place, StmtKind::Drop(expr_in(typed))),
+        [_only] => unpack_one(alloc, place, targets, first, typed),
+        [_first, _second, ..] => one_stmt(
             alloc,
             place,
             StmtKind::Assign(targets, None, expr_in(typed)),
         ),
+    }
+}
+
+fn unpack_stmt(
+    alloc: Global,
+    place: Place,
+    targets: Option<Targets>,
+    first: Option<Ty>,
+    typed: Typed,
+) -> Result<Option<Stmts>, Memory>
+    ensures { IfOk result (λ ss. ss ≡ spec.unpack_typed place true targets first typed) }
+{
+    match targets {
+        Some(targets) => unpack_to(alloc, place, targets, first, typed),
         None => Ok(None),
     }
 }
@@ -264,15 +316,16 @@ fn unpack_taken(
     place: Place,
     numbers: &[Option<u32>],
     all: bool,
+    first: Option<Ty>,
     typed: Typed,
 ) -> Result<Option<Stmts>, Memory>
     ensures told { OnOk result (into.new ≡ into.old ++ ((if all then [] else meanings.broken Rule.P14 typed.expr.place ∷ []) ++ spec.all_assigned numbers.now)) }
-    ensures typed { IfOk result (λ ss. ss ≡ spec.unpack_typed place all (spec.slot_targets numbers.now) typed) }
+    ensures typed { IfOk result (λ ss. ss ≡ spec.unpack_typed place all (spec.slot_targets numbers.now) first typed) }
 {
     if all {
         note_slots(into, numbers)?;
         let targets = slot_targets(alloc, numbers)?;
-        unpack_stmt(alloc, place, targets, typed)
+        unpack_stmt(alloc, place, targets, first, typed)
     } else {
         break_rule(into, Rule::P14, typed.expr.place)?;
         note_slots(into, numbers)?;
@@ -298,6 +351,25 @@ fn take_tuple(
     }
 }
 
+fn first_type(alloc: Global, parts: &[SourceType]) -> Result<Option<Ty>, Memory>
+    ensures { IfOk result (λ t. t ≡ spec.first_type parts.now) }
+{
+    match parts {
+        [first, ..] => Ok(Some(tree_type(alloc, first)?)),
+        [] => Ok(None),
+    }
+}
+
+/// The type of a tuple's first part.
+fn first_of_parts(alloc: Global, ty: &SourceType) -> Result<Option<Ty>, Memory>
+    ensures { IfOk result (λ t. t ≡ parting.first_of_parts (types.tuple_parts ty.now)) }
+{
+    match tuple_parts(ty) {
+        Some(parts) => first_type(alloc, parts),
+        None => Ok(None),
+    }
+}
+
 fn unpack_typed(
     alloc: Global,
     into: &mut Notes,
@@ -310,8 +382,9 @@ fn unpack_typed(
     ensures told { OnOk result (into.new ≡ into.old ++ (spec.unpacked_parts locals.old place numbers.now typed (types.tuple_parts typed.ty)).notes) }
     ensures typed { IfOk result (λ ss. ss ≡ (spec.unpacked_parts locals.old place numbers.now typed (types.tuple_parts typed.ty)).typed) }
 {
+    let first = first_of_parts(alloc, &typed.ty)?;
     match take_tuple(alloc, locals, numbers, &typed.ty)? {
-        Some(all) => unpack_taken(alloc, into, place, numbers, all, typed),
+        Some(all) => unpack_taken(alloc, into, place, numbers, all, first, typed),
         None => unpack_nothing(into, numbers, typed.expr.place),
     }
 }

@@ -6,10 +6,10 @@ ghost use Rattle.type_check.specs.Functions as spec;
 ghost use Rattle.statement_check.specs.Noting.{with_names};
 ghost use Rattle.expression_check.specs.Sights.{seen};
 
-use crate::types::{known_copied, tree_type};
+use crate::types::known_copied;
 use awst::{Func as TypedFunc, Stmts, Ty, Tys, places};
 use expression_check::{Locals, Sight, is_nothing};
-use meaning_rules::{Local, Status};
+use meaning_rules::{Local, Status, tree_type};
 use path_rules::{Note, Notes};
 use puya_base::{List, Memory, Name, Place, Refusal, Rule, split_off};
 use py_grammar::Func;
