@@ -1,8 +1,6 @@
 //! What the rules say of a few calls.
 
-use call_rules::applied;
-use call_rules::Known;
-use call_rules::Callee;
+use call_rules::{Callee, Known, applied};
 use meaning_rules::{Lit, Meaning};
 use path_rules::{Note, Notes};
 use puya_base::{Blob, List, Place, Rule};

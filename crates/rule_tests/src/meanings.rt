@@ -1,12 +1,10 @@
 //! What the rules say of a few expressions.
 
-use meaning_rules::{Hope, Lit, Meaning};
-use meaning_rules::Operand;
-use meaning_rules::{BinaryOperator, between_operands};
-use meaning_rules::scalar_node;
-use meaning_rules::literal;
 use algopy_library::{Operator, Scalar};
 use awst::ExprKind;
+use meaning_rules::{
+    BinaryOperator, Hope, Lit, Meaning, Operand, between_operands, literal, scalar_node,
+};
 use path_rules::{Note, Notes};
 use puya_base::{Blob, Place, Rule};
 use std::test::Fail;

@@ -2,12 +2,12 @@
 
 ghost use Rattle.std.specs.Prelude.{◌≤◌, length};
 
-use unbuilt_names::is_unbuilt;
 use puya_base::{List, Memory, Name, Place, SourceFault};
 use py_grammar::{Import, Item, Module, Word};
 use py_lexer::tokens;
 use std::alloc::Global;
 use std::test::Fail;
+use unbuilt_names::is_unbuilt;
 
 const HERE: Place = Place { line: 1, col: 1 };
 
