@@ -20,7 +20,8 @@ pub type Builds = List<Build>;
 pub enum CompileFault {
     /// The first rule that the source breaks, and where.
     Refused(Refusal),
-    /// The source breaks no rule so far, but has a form that is not compiled yet.
+    /// The source uses a form of the language that is not built yet and breaks none of P01 to P07, or it breaks no rule and is
+    /// not of the one form that is compiled.
     NotBuilt,
     Memory,
 }

@@ -1,4 +1,4 @@
-//! The rules on names and types, each public call asked once and more.
+//! Names that are not built, operations, literals and calls, asked one by one.
 #![tactic(auto)]
 
 #[cfg(test)]

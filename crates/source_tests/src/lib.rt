@@ -1,4 +1,4 @@
-//! Sources: their tokens, trees, names, first lines, paths and programs, each public call asked once and more.
+//! Sources: their tokens, trees, names, first lines, paths and programs, asked one by one.
 #![tactic(auto)]
 
 #[cfg(test)]
