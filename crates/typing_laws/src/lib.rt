@@ -1,0 +1,6 @@
+//! Laws over the definitions of the type checker.
+#![tactic(auto)]
+
+mod sound;
+
+pub use sound::checked_contracts_are_sound;
