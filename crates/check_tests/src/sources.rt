@@ -169,6 +169,331 @@ P14 for i in `s:;    x = x;return x
 P14 b = b[x:`a];return x
 ok b = b[:];return x
 P14 x = `b"abc".length;return x
+P08 b = Bytes.`from_bytes(b);return x
+P08 s = String.`from_bytes(b);return x
+P08 a = Account.`from_bytes(b);return x
+P08 x = op.`Scratch.load(x);return x
+P08 c = op.`ed25519verify(b, b, b);return x
+P08 y = op.`AppGlobal;return x
+P08 b = op.`sha3_256(y);return x
+P08 x = op.`EllipticCurve(z);return x
+P09 x = op.`Foo.bar(x);return x
+P09 x = Global.`foo;return x
+P09 x = OnCompleteAction.`Foo;return x
+P09 x = Txn.application_id.`foo;return x
+P09 b = b.`bytes;return x
+P09 x = a.`length;return x
+P09 x = c.`length;return x
+P09 x = x.`length;return x
+P09 t = (x, b);x = t.`length;return x
+P09 b = Bytes.`foo("00");return x
+P09 x = f(x, b, c, s, a, `q=1);return x
+P09 log(x, `sep=x);return x
+P09 for i in urange(`stop=x):;    x = i;return x
+P09 x = UInt64(`value=1);return x
+P09 y: tuple[UInt64, `Foo] = x;return x
+P09 x = `self;return x
+P09 b = b / `y;return x
+P09 x = f(`y);return x
+P09 x = UInt64(`y, 2);return x
+P09 y = 5 if c else `z;return x
+P09 y = 5 == `z;return x
+P09 y = not `z;return x
+P09 y = -`z;return x
+P09 y = x[`z];return x
+P09 y = x[0:`z];return x
+P09 y = x(`z);return x
+P09 y = x if `z else 5;return x
+P09 c = c and `z;return x
+P09 y = `z;log = x;return x
+P09 x = `z;if c:;    y = x;return y
+P09 y = `z;break;return x
+P09 x = `foo(5);return x
+P09 x = `foo.bar(5).baz;return x
+P09 del `y;return x
+P09 if `z:;    y = x;return y
+P09 for i in `z:;    y = i;return x
+P09 assert `z, x;return x
+P10 for `log in urange(3):;    x = log;return x
+P10 y, `log = x, x;return x
+P10 `log: UInt64;return x
+P10 `f = x;return x
+P10 `C = x;return x
+P10 `UInt64 = x;return x
+P10 if c:;    `log = x;y = z;return x
+P10 x = x;`op = x;op = y;return x
+P17 x = `log;log = x;return x
+ok bool = x;x = bool;return x
+P13 y: tuple[UInt64, `None] = x;return x
+P13 y: `UInt64[UInt64] = x;return x
+P13 y: `tuple = x;return x
+P13 y: `op = x;return x
+P13 y: `f = x;return x
+P13 y: `C = x;return x
+P13 y: `Txn = x;return x
+P13 x, b = `();return x
+P13 log(`());return x
+P13 y = x, `();return x
+P14 x = x + `s;return x
+P14 b = b + `x;return x
+P14 b = b + `s;return x
+P14 x = `c + x;return x
+P14 a = `a + a;return x
+P14 t = (x, b);y = `t + t;return x
+P14 c = x == `b;return x
+P14 c = b == `s;return x
+P14 c = a != `b;return x
+P14 c = `1 == c;return x
+P14 c = `c < c;return x
+P14 b = `b < b;return x
+P14 x = x & `c;return x
+P14 b = `b | b;return x
+P14 b = `~b;return x
+P14 x = `+x;return x
+P14 x = `-x;return x
+P14 b = `-b;return x
+P14 x = `s // 2;return x
+P14 x = x ** `b;return x
+P14 x = x % `"a";return x
+P14 x = `c * 2;return x
+P14 x = `2 * c;return x
+P14 c = `x or c;return x
+P14 c = c or `1;return x
+P14 c = `1 and c;return x
+P14 c = c and `b;return x
+P14 y = x if `1 else x;return x
+P14 y = x if `a else x;return x
+P14 if c:;    x = x;elif `1:;    x = x;return x
+P14 if c:;    x = x;elif `a:;    x = x;return x
+P14 while `a:;    x = x;return x
+P14 while `"a":;    x = x;return x
+P14 assert `a;return x
+P14 assert `(x, b);return x
+P14 assert c, `s;return x
+P14 assert c, `b"a";return x
+P14 assert c, `"a" + "b";return x
+ok assert c, "a" "b";assert x, "no";assert b;assert s;return x
+P14 return `c
+P14 return `x,
+P14 return `(x,)
+P14 return `x, x
+P14 return `"a"
+P14 return `True
+P14 return (`1 + 2)
+P14 c = `op.getbit(b, 0);return x
+P14 x = op.setbit_uint64(x, 0, `c);return x
+ok x = op.setbit_uint64(x, 0, 1);b = op.setbit_bytes(b, 0, 1);x = op.getbit(b, 0) + op.getbit(x, 0);return x
+P14 x = `op.addw(x, 1);return x
+P14 y = `urange(3);return x
+P14 y = `urange;return x
+P14 for i in `urange:;    x = x;return x
+P14 x = `Txn.sender;return x
+P14 x = `Txn.sender();return x
+P14 b = Txn.application_args(`b);return x
+P14 y = `log;return x
+P14 y = `op.itob;return x
+P14 y = `Txn;return x
+P14 y = `Global;return x
+P14 y = `OnCompleteAction;return x
+P14 y = `tuple;return x
+P14 y = `bool;return x
+P14 y = `tuple(x);return x
+P14 y = `Txn(x);return x
+P14 y = `op(x);return x
+P14 y = `Txn.application_args;return x
+P14 y = `Global.current_application_id;return x
+P14 y = `Bytes.from_hex;return x
+P14 y = `Contract;return x
+P14 x = `5(x);return x
+P14 y = `[];return x
+P14 `[x];return x
+P14 c = `not (x, x);return x
+P14 c = bool(`(x, x));return x
+P14 log(`(x, x));return x
+P14 log(`"a");return x
+P14 log(x, `5);return x
+P14 log(x, `c);return x
+P14 b = b[`c];return x
+P14 b = b[`1, 2];return x
+P14 b = b[`x, x];return x
+P14 b = b[`s:];return x
+P14 b = b[:`"a"];return x
+P14 s = `s[0];return x
+P14 s = `s[0:1];return x
+P14 a = `a[0];return x
+P14 t = (x, b);x = t[`c];return x
+P14 t = (x, b);x = t[`x + 1];return x
+P14 t = (x, b);x = t[`"a"];return x
+P14 t = (x, b);b = `t[0];return x
+P14 t = (x, b);b = `t[0:1];return x
+ok t = (x, b);x = t[0];b = t[1];return x
+ok t = (x, (b, c));x, u = t;b = t[1][0];c = u[1];return x
+P14 x, b = `x, x;return x
+P14 x, b, y = `x, b;return x
+P14 x, b = `(x, b), x;return x
+P14 `c += 1;return x
+P14 x += `"a";return x
+P14 s += `b;return x
+P14 `c &= c;return x
+ok s += "a";b += b"x";x -= 1;x *= 2;x //= 3;x %= 4;x &= 5;x |= 6;x ^= 7;x <<= 1;x >>= 1;return x
+P14 f(`b, b, c, s, a);return x
+P14 x = f(x, b, c, `b"a", a);return x
+P14 x = f(x, b, c, s, a=`1);return x
+P14 x = f(x, b, c, s, a=`x);return x
+P14 x = f(x, b, c=`1, s=s, a=a);return x
+P14 x = UInt64(`"a");return x
+P14 x = UInt64(`b);return x
+P14 s = String(`b"a");return x
+P14 s = String(`s);return x
+P14 b = Bytes(`b);return x
+P14 b = Bytes(`1);return x
+P14 b = Bytes.from_hex(`b"00");return x
+P14 b = Bytes.from_hex(`b);return x
+P14 b = Bytes.from_hex(`"0g");return x
+ok x = UInt64();b = Bytes();s = String();c = bool(c);c = bool(x);c = bool(b);c = bool(s);x = UInt64(True);return x
+ok y = 5 if c else x;y = x if c else 5;y = (5) if c else x;return y
+ok t: tuple[UInt64, UInt64] = (1, 2) if c else (3, x);return t[0]
+ok y = 5 if c else 6 if c else x;return y
+P14 y = `"a" if c else x;return x
+P14 y = x if c else `b"a";return x
+P14 y = (`1, 2) if c else (x, x);return x
+P14 y = `1, x;return x
+P14 x = `(b);return x
+P14 b = op.itob(`b);return x
+P14 b = op.sha256(`x);return x
+P14 x = op.bitlen(`c);return x
+P14 x = op.getbit(`c, 0);return x
+P14 b = op.concat(b, `s);return x
+P14 b = op.itob(`"a");return x
+ok b = op.itob(1);b = op.concat(b"a", b"b");b = op.bzero(2);return x
+P14 x = `c(x);return x
+P14 x = `f(x, b, c, s, a)(x);return x
+P14 c = b in `b;return x
+P14 c = 1 in `x;return x
+P14 y: UInt64 = `c;return x
+P14 y: bool = `1;return x
+P14 t: tuple[UInt64, Bytes] = `(b, b);return x
+P14 t: tuple[UInt64, Bytes] = (`"a", b);return x
+P14 t: tuple[UInt64, Bytes] = `x;return x
+P14 for i in urange(`b):;    x = i;return x
+P14 for i in urange(1, `c):;    x = i;return x
+P14 for i in urange(`"a", 2):;    x = i;return x
+P14 for i in `5:;    x = x;return x
+P14 for i in `(x, x):;    x = x;return x
+P14 for `x in b:;    c = c;return x
+P14 i = x;for `i in b:;    x = x;return x
+P15 x = f(x=x, b=b, c=c, s=s, a=a, `x=x);return x
+P15 x = `f();return x
+P15 b = `Bytes(b"a", b"b");return x
+P15 s = `String("a", "b");return x
+P15 c = `bool();return x
+P15 c = `bool(x, x);return x
+P15 b = `Bytes.from_hex();return x
+P15 x = `op.btoi(b, b);return x
+P15 x = `op.sqrt();return x
+P15 x = `op.setbit_uint64(x, 1);return x
+P15 for i in `urange(1, 2, 3, 4):;    x = i;return x
+P15 for i in urange(1, 2, `c):;    x = i;return x
+P15 for i in urange(1, 2, `"a"):;    x = i;return x
+P15 b = `Txn.application_args();return x
+P15 x = x + `f(x);return x
+ok for i in urange(1, 9, 2):;    x = i;for i in urange(x, 9):;    x = i;return x
+P16 `b[0] = b;return x
+P16 `b[0:1] = b;return x
+P16 `f(x, b, c, s, a) = x;return x
+P16 `x + 1 = x;return x
+P16 `"a" = x;return x
+P16 `True = c;return x
+P16 `Txn.fee = x;return x
+P16 t = (x, b);`t[0] = x;return x
+P16 t = (x, b);del `t[0];return x
+P16 del `b[0];return x
+P16 del `b.length;return x
+P16 del `5;return x
+P16 del `f(x, b, c, s, a);return x
+P16 x, `b.length = x, x;return x
+P16 x, `b[0] = x, b;return x
+P16 x, `(x, x) = x, (x, x);return x
+P16 `b[0] += b;return x
+P16 `5 += 1;return x
+P16 `b.length += 1;return x
+P16 `x if c else x = x;return x
+P16 `b[0]: Bytes = b;return x
+P16 `x, b: UInt64 = x;return x
+P16 x = x;del `x;y = z;return x
+ok (x, y) = x, x;(x) += 1;x, x = 1, 2;x, y = (1, x);return y
+ok x, y = op.addw(x, x) if c else (x, x);return x
+ok if True:;    y = x;return y
+P17 if False:;    pass;else:;    y = x;return `y
+ok if c:;    y = x;elif True:;    y = x;return y
+P17 if c:;    y = x;elif c:;    y = x;return `y
+P17 while True and True:;    y = x;    if c:;        break;return `y
+P17 `y += 1;return x
+P17 y: UInt64;`y += 1;return x
+P17 for i in urange(2):;    for i in urange(3):;        x = i;    x = `i;return x
+ok for i in b:;    b = i;for i in b:;    b = i;return x
+P17 for i in b:;    y = i;log(`y);return x
+P17 y, z = x, `z;return x
+ok if c:;    return x;else:;    y = x;return y
+ok while True:;    if c:;        y = x;        break;return y
+P17 while True:;    if c:;        y = x;        break;    if x > 5:;        break;return `y
+P17 if c:;    y = x;else:;    assert False;return `y
+P17 y: bool;c = c and `y;return x
+P17 y: bool;c = `y if c else c;return x
+P17 y: UInt64;if c:;    x = `y;return x
+P17 y: Bytes;log(`y);return x
+P17 t: tuple[UInt64, Bytes];x = `t[0];return x
+P17 y: UInt64;x = f(`y, b, c, s, a);return x
+P17 y: UInt64;x, b = `y, b;return x
+P17 y: bool;while `y:;    y = c;return x
+P17 y: UInt64;for i in urange(`y):;    y = i;return x
+P17 if c:;    y = x;x = `y;x = z;return x
+ok y = x;return x;x = y;return x
+ok y: UInt64;return x;x = y;return x
+ok while c:;    y = x;    if y < 5:;        continue;    x = y;return x
+ok while c:;    break;    x = x;return x
+P19 `continue;return x
+P19 while c:;    pass;`break;return x
+P19 if c:;    for i in urange(3):;        pass;    `break;return x
+P19 x = x;`break;y = z;return x
+P19 for i in b:;    break;`continue;return x
+ok for i in b:;    if c:;        break;    else:;        continue;return x
+ok x, h = op.mulw(x, 2);q, r, m, n = op.divmodw(x, h, 1, 2);x = op.divw(x, h, q) + op.exp(r, m) + op.sqrt(n);return x
+ok b = op.sha256(b) + op.sha512_256(b) + op.extract(b, 0, 1) + op.substring(b, 0, 1) + op.replace(b, 0, b"a") + op.setbyte(b, 0, 1);return x
+ok x = op.btoi(b) + op.extract_uint16(b, 0) + op.extract_uint32(b, 0) + op.extract_uint64(b, 0) + op.getbyte(b, 0) + op.shl(x, 1) + op.shr(x, 1) + op.bitlen(b) + op.bitlen(x);return x
+ok b = Txn.note + Txn.sender.bytes + Global.zero_address.bytes + Global.creator_address.bytes;x = Txn.on_completion + Txn.num_app_args + Global.round + Global.latest_timestamp;return x
+ok x = OnCompleteAction.NoOp + OnCompleteAction.OptIn + OnCompleteAction.CloseOut + OnCompleteAction.ClearState + OnCompleteAction.UpdateApplication + OnCompleteAction.DeleteApplication;return x
+ok c = x == 1 and x != 2 and x < 3 and x > 4 and x <= 5 and x >= 6 or not c;return x
+ok c = b != b"a" and s != "a" and a != a and c != False;x = b.length + s.bytes.length + a.bytes.length;return x
+ok "a";pass;("b");if c:;    pass;else:;    "c";return x
+ok y: tuple[tuple[tuple[tuple[tuple[tuple[tuple[tuple[tuple[tuple[tuple[tuple[tuple[tuple[tuple[tuple[tuple[tuple[tuple[tuple[tuple[tuple[tuple[tuple[tuple[tuple[tuple[tuple[tuple[tuple[tuple[tuple[UInt64]]]]]]]]]]]]]]]]]]]]]]]]]]]]]]]];return x
+ok y = ((((((((((((((((((((((((((((((((x,),),),),),),),),),),),),),),),),),),),),),),),),),),),),),),),);return x
+P13 y = `(((((((((((((((((((((((((((((((((x,),),),),),),),),),),),),),),),),),),),),),),),),),),),),),),),),);return x
+P08 y: op.`Scratch = x;return x
+P13 y: `op.itob = x;return x
+P13 y: `tuple[5] = x;return x
+P13 y: `x = x;return x
+P13 bool = x;y: `bool = c;return x
+P09 log(c, `y);return x
+P09 x = f(b, `y, c, s, a);return x
+P14 b = (`5);return x
+P09 `foo.x = x;return x
+P09 x, b.`foo = x, x;return x
+P14 t = (x, b);x = t[`-1];return x
+ok t = (x, b);b = t[(1)];return x
+P16 `(x, b) += 1;return x
+P14 y: Bytes;x = `y;return x
+P15 b = `UInt64(1, 2);return x
+P16 y: UInt64;del `y;return x
+ok (y): UInt64 = x;return y
+P15 b = `Txn.application_args(x, x);return x
+P15 b = `Bytes.from_hex("00", "00");return x
+P15 c = `bool(1, 2);return x
+P15 s = `String("a", 1);return x
+P14 `[x, b] = x, b;return x
+P09 x, (`y, z) = x, (x, x);return x
+P15 x = `f(x, b, c, s, a, 1);return x
+P15 x = `f(1);return x
 "#;
 
 /// What stands between the imports and a contract.
