@@ -528,6 +528,99 @@ P10 @subroutine;def f(x: UInt64) -> UInt64:;    `log += 1;    return x
 ok @subroutine;def f(self: UInt64) -> UInt64:;    return self + 1
 ok tuple = 5;@subroutine;def f() -> UInt64:;    return tuple
 P09 @`foo;def f() -> UInt64:;    return UInt64(1)
+ok @subroutine;def f() -> UInt64:;    x, = (UInt64(1),);    return x
+P14 @subroutine;def f() -> UInt64:;    x, = (True,);    return `x
+P14 @subroutine;def f() -> UInt64:;    x, = `UInt64(1);    return x
+P14 @subroutine;def f() -> UInt64:;    x, = `(UInt64(1), UInt64(2));    return x
+ok @subroutine;def f(x: UInt64) -> tuple[UInt64]:;    y: tuple[UInt64] = x,;    y = (x,);    return x,
+P14 @subroutine;def f(x: UInt64) -> tuple[UInt64]:;    return `x
+P14 @subroutine;def f(x: UInt64) -> tuple[UInt64, Bytes]:;    return 1, `2
+P14 @subroutine;def f(x: UInt64) -> tuple[UInt64, Bytes]:;    return `x, x
+ok @subroutine;def f(c: bool) -> tuple[UInt64, Bytes]:;    return (1, b"a") if c else (2, (b"b"))
+P14 @subroutine;def f(c: bool) -> bool:;    return c and `1
+P14 @subroutine;def f(c: bool) -> bool:;    return `1
+P14 @subroutine;def f(c: bool) -> None:;    return `c
+P10 N = 5;`N = 6
+P10 N = 5;@subroutine;def `N() -> UInt64:;    return UInt64(1)
+P10 @subroutine;def f(x: UInt64) -> UInt64:;    `N = x;    return x;N = 5
+P10 @subroutine;def f(x: UInt64) -> UInt64:;    `g = x;    return y;@subroutine;def g() -> UInt64:;    return z
+P10 @subroutine;def f(`f: UInt64) -> UInt64:;    return y
+P10 @subroutine;def f(a: UInt64, b: UInt64, `a: Bytes) -> UInt64:;    return y
+P10 @subroutine;def f(`log: UInt64) -> UInt64:;    log = y;    return log
+P09 @subroutine;def g() -> UInt64:;    return `y;@subroutine;def f(x: UInt64) -> UInt64:;    log = x;    return z
+P10 @subroutine;def f() -> UInt64:;    return UInt64(1);@subroutine;def `f(x: Bytes) -> Bytes:;    return y
+ok @subroutine;def bool(x: UInt64) -> UInt64:;    return x;@subroutine;def f() -> UInt64:;    return bool(5)
+ok @subroutine;def f(tuple: UInt64, bool: UInt64) -> UInt64:;    return tuple + bool
+ok @subroutine;def f(a: Account) -> Account:;    return a
+P09 @subroutine;def f(x: `Foo) -> UInt64:;    return UInt64(1)
+P09 @subroutine;def f(x: UInt64) -> tuple[UInt64, `Foo]:;    return y
+P13 @subroutine;def f(x: `None) -> UInt64:;    return UInt64(1)
+P13 @subroutine;def f(x: tuple[UInt64, `op]) -> UInt64:;    return UInt64(1)
+P13 @subroutine;def f() -> `log:;    return UInt64(1)
+P13 @subroutine;def f() -> tuple[`None]:;    return UInt64(1)
+P13 `def f(x: UInt64):;    return x
+P13 `@subroutine;@log;def f(x: UInt64):;    return y
+P14 @subroutine;def g() -> None:;    pass;@subroutine;def f(x: UInt64) -> UInt64:;    y = (`g(), x);    return x
+P14 @subroutine;def g() -> None:;    pass;@subroutine;def f(x: UInt64) -> UInt64:;    return x + `g()
+P14 @subroutine;def g() -> None:;    pass;@subroutine;def f(x: UInt64) -> UInt64:;    return `g() + x
+P14 @subroutine;def g() -> None:;    pass;@subroutine;def f(x: UInt64) -> UInt64:;    log(`g());    return x
+P14 @subroutine;def g() -> None:;    pass;@subroutine;def f(x: UInt64) -> UInt64:;    return f(`g())
+P14 @subroutine;def g() -> None:;    pass;@subroutine;def f(x: UInt64) -> UInt64:;    if `g():;        x = x;    return x
+P14 @subroutine;def g() -> None:;    pass;@subroutine;def f(c: bool) -> UInt64:;    return `g() if c else 1
+P14 @subroutine;def g() -> None:;    pass;@subroutine;def f() -> None:;    return `g()
+P14 N = 5;@subroutine;def f(x: UInt64) -> UInt64:;    return `N(1)
+P14 N = "a";@subroutine;def f(x: UInt64) -> UInt64:;    return x + `N
+P14 N = 5;@subroutine;def f(x: UInt64) -> UInt64:;    log(`N);    return x
+P14 N = 5;@subroutine;def f(x: UInt64) -> UInt64:;    if `N:;        x = x;    return x
+P14 T = True;@subroutine;def f(x: UInt64) -> UInt64:;    return `T
+P14 N = 5;@subroutine;def f(c: bool) -> bool:;    assert c, `N;    return c
+ok N = 5;B = b"a";S = "a";T = False;@subroutine;def f(x: UInt64, b: Bytes, s: String, c: bool) -> UInt64:;    return x + N if b == B and s == S or c == T else N
+ok N = 2;@subroutine;def f(b: Bytes) -> Bytes:;    t = (b, b, b);    for i in urange(1, N, N):;        b = b[N] + b[N:];    return t[N]
+P16 N = 5;@subroutine;def f() -> UInt64:;    del `N;    return UInt64(1)
+ok T = True;@subroutine;def f(x: UInt64) -> UInt64:;    if T:;        y = x;    return y
+P17 T = False;@subroutine;def f(x: UInt64) -> UInt64:;    if T:;        x = x;    else:;        y = x;    return `y
+P18 @subroutine;def `f() -> UInt64:;    assert False
+ok @subroutine;def f() -> UInt64:;    if True:;        return UInt64(1)
+ok T = True;@subroutine;def f() -> UInt64:;    while T:;        pass
+P18 @subroutine;def `f() -> UInt64:;    while not False:;        pass
+ok @subroutine;def f() -> UInt64:;    while True:;        pass
+P18 @subroutine;def `f() -> UInt64:;    for i in urange(3):;        return i
+ok @subroutine;def f(c: bool) -> UInt64:;    if c:;        return UInt64(1);    else:;        return UInt64(2)
+P18 @subroutine;def `f(c: bool) -> UInt64:;    if c:;        return UInt64(1);    elif not c:;        return UInt64(2)
+P18 @subroutine;def `f(x) -> UInt64:;    pass
+P09 @subroutine;def f() -> `Foo:;    pass
+P18 @subroutine;def `f(x: UInt64) -> UInt64:;    y = 5
+P18 @subroutine;def `f(c: bool) -> UInt64:;    if c:;        y = UInt64(1);    z = y
+P18 @subroutine;def `f(x: UInt64, x: UInt64) -> UInt64:;    pass
+P18 @subroutine;def `f() -> UInt64:;    log = 5
+P18 @subroutine;def `f() -> UInt64:;    pass;@subroutine;def g() -> UInt64:;    return y
+P09 @subroutine;def g() -> UInt64:;    return `y;@subroutine;def f() -> UInt64:;    pass
+P18 @subroutine;def `f() -> UInt64:;    x = UInt64(1);@subroutine;def g(log: UInt64) -> UInt64:;    pass
+P22 `def f() -> UInt64:;    pass
+ok @subroutine;def f() -> None:;    pass
+ok @subroutine;def f(c: bool) -> None:;    if c:;        return
+P19 @subroutine;def f() -> None:;    `break
+P22 @`op.itob;def f() -> UInt64:;    return UInt64(1)
+P22 @`UInt64(1);def f() -> UInt64:;    return UInt64(1)
+P22 @`log;@subroutine;def f() -> UInt64:;    return y
+P22 @`f;def f() -> UInt64:;    return UInt64(1)
+P22 N = 5;@`N;def f() -> UInt64:;    return UInt64(1)
+P22 @`C;def f() -> UInt64:;    return UInt64(1)
+P08 @op.`sha3_256;def f() -> UInt64:;    return UInt64(1)
+ok @subroutine;def f(x: UInt64) -> UInt64:;    return g(x);@subroutine;def g(x: UInt64) -> UInt64:;    return f(x)
+P15 @subroutine;def f(x: UInt64) -> UInt64:;    return `f(x, g(y=1));@subroutine;def g(y: UInt64) -> UInt64:;    return y
+P15 @subroutine;def f() -> UInt64:;    return `f(1)
+P14 @subroutine;def f() -> UInt64:;    return `f
+ok @subroutine;def f(x: UInt64) -> UInt64:;    self = x;    return self
+ok @subroutine;def f(x: UInt64, b: Bytes) -> tuple[UInt64, Bytes]:;    x, b = f(b=b, x=x);    return f(x, b=b)
+P14 @subroutine;def f(x: UInt64) -> tuple[UInt64, Bytes]:;    x, y = `f(x)[0];    return f(x)
+P11 `import os;@subroutine;def f(x: UInt64) -> UInt64:;    return os.path + y
+P11 `from algopy.op import itob;@subroutine;def f(x: UInt64) -> UInt64:;    return itob(5)
+P14 @subroutine;def f(x: UInt64) -> UInt64:;    return `b"a";import os
+P24 @subroutine;def `f(x: UInt64) -> UInt64:;    t = (x, x, x, x, x, x, x, x, x, x, x, x, x, x, x);    u = (t, t, t, t, t, t, t, t, t, t, t, t, t, t, t);    v = (u, u, u, u, u, u, u, u, u, u, u, u, u, u, u);    return x
+P13 @subroutine;def f(x: UInt64) -> UInt64:;    t = (x, x, x, x, x, x, x, x, x, x, x, x, x, x, x);    u = (t, t, t, t, t, t, t, t, t, t, t, t, t, t, t);    v = (u, u, u, u, u, u, u, u, u, u, u, u, u, u, u);    w = `(v, v);    return x
+P14 X = 5;@subroutine;def f(x: UInt64) -> UInt64:;    return `X.foo
+P10 @subroutine;def f(`log) -> UInt64:;    return UInt64(1)
 "#;
 
 /// Whole sources.
