@@ -752,6 +752,24 @@ ok @subroutine;def f(~, y: UInt64) -> UInt64:;    return y
 P14 @subroutine;def f(~, y: UInt64, z: UInt64) -> UInt64:;    return `b"a"
 P24 @subroutine;def `f(~) -> UInt64:;    for i in urange(3):;        a0 = i;    return a0
 P24 @subroutine;def `f(~, y: UInt64) -> UInt64:;    z: UInt64;    return y
+P24 @subroutine;def `f(~, y: UInt64, z: UInt64) -> UInt64:;    return a0
+ok @subroutine;def f(~, y: UInt64) -> UInt64:;    return a0
+P24 @subroutine;def `f(~, y: UInt64, z: UInt64) -> UInt64:;    return a0;@subroutine;def g() -> UInt64:;    return y
+P24 @subroutine;def `f(~, y: UInt64, z: UInt64) -> UInt64:;    return a0;@subroutine;def g() -> UInt64:;    pass
+P09 @subroutine;def g() -> UInt64:;    return `y;@subroutine;def f(~, y: UInt64, z: UInt64) -> UInt64:;    return a0
+P14 @subroutine;def g() -> UInt64:;    return `b"a";@subroutine;def f(~, y: UInt64, z: UInt64) -> UInt64:;    return a0
+P18 @subroutine;def `g() -> UInt64:;    pass;@subroutine;def f(~, y: UInt64, z: UInt64) -> UInt64:;    return a0
+P24 @subroutine;def `f(~, y: UInt64, z: UInt64) -> UInt64:;    return a0;@subroutine;def g(~, y: UInt64, z: UInt64) -> UInt64:;    return a0
+P18 @subroutine;def `f(~, y: UInt64, z: UInt64) -> UInt64:;    pass
+P24 @subroutine;def `f(~, y: UInt64) -> UInt64:;    w: UInt64;    return w
+P09 @subroutine;def f(~, y: UInt64, z: UInt64) -> UInt64:;    return `w
+P24 @subroutine;def `f(~, y: tuple[UInt64, UInt64]) -> UInt64:;    return a0
+P24 @subroutine;def `f(~, y: UInt64) -> tuple[UInt64, UInt64]:;    return a0, a1
+ok @subroutine;def f(~) -> tuple[UInt64, UInt64]:;    return a0, a1
+P24 @subroutine;def `f(~) -> UInt64:;    for i in urange(3):;        pass;    return a0
+P24 @subroutine;def `f(~, y: UInt64, z: UInt64) -> UInt64:;    break;    return a0
+P24 @subroutine;def `f(~, y: UInt64, z: UInt64, y: UInt64) -> UInt64:;    return a0
+P13 @subroutine;def f(~, y: UInt64, `z) -> UInt64:;    return a0
 "#;
 
 const IMPORTS: &str =
