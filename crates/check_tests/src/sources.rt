@@ -494,6 +494,10 @@ P14 `[x, b] = x, b;return x
 P09 x, (`y, z) = x, (x, x);return x
 P15 x = `f(x, b, c, s, a, 1);return x
 P15 x = `f(1);return x
+P07 return `None
+P16 del `(x);return x
+P16 `(5) = x;return x
+P09 y = `z;log = x;x = w;return x
 "#;
 
 /// What stands between the imports and a contract.
@@ -744,6 +748,12 @@ ok from algopy import BoxRef, Bytes, Contract, GlobalState, Txn, UInt64, log, op
 ok from algopy import BoxRef, Bytes, Contract, GlobalState, Txn, UInt64, log, op, subroutine, urange;class T(Contract):;    def approval_program(self) -> UInt64:;        while True: pass;    def clear_state_program(self) -> UInt64:;        return UInt64(1)
 ok from algopy import BoxRef, Bytes, Contract, GlobalState, Txn, UInt64, log, op, subroutine, urange;@subroutine;def total(n: UInt64) -> UInt64:;    if n == 0: return UInt64(0);    return n + total(n - 1);class T(Contract):;    def approval_program(self) -> UInt64:;        return total(UInt64(2000));    def clear_state_program(self) -> UInt64:;        return UInt64(1)
 ok from algopy import BoxRef, Bytes, Contract, GlobalState, Txn, UInt64, log, op, subroutine, urange;class T(Contract):;    def approval_program(self) -> UInt64:;        for i in urange(32): log(op.bzero(32));        return UInt64(1);    def clear_state_program(self) -> UInt64:;        return UInt64(1)
+ok from algopy import BoxRef, Bytes, Contract, GlobalState, Txn, UInt64, log, op, subroutine, urange;@subroutine;def spin() -> None:;    while True: pass;class T(Contract):;    def approval_program(self) -> UInt64:;        spin();        return UInt64(1);    def clear_state_program(self) -> UInt64:;        return UInt64(1)
+ok from algopy import BoxRef, Bytes, Contract, GlobalState, Txn, UInt64, log, op, subroutine, urange;class T(Contract):;    def approval_program(self) -> UInt64:;        x = UInt64(6) * 7;        y = op.bitlen(Txn.fee) ^ x;        return UInt64(1);    def clear_state_program(self) -> UInt64:;        return UInt64(1)
+ok from algopy import BoxRef, Bytes, Contract, GlobalState, Txn, UInt64, log, op, subroutine, urange;class T(Contract):;    def approval_program(self) -> UInt64:;        x = Txn.fee;        y = x;        log(y);        return UInt64(1);    def clear_state_program(self) -> UInt64:;        return UInt64(1)
+ok from algopy import BoxRef, Bytes, Contract, GlobalState, Txn, UInt64, log, op, subroutine, urange;class T(Contract):;    def approval_program(self) -> UInt64:;        log(UInt64(1));        log(UInt64(2));        return UInt64(1);    def clear_state_program(self) -> UInt64:;        return UInt64(1)
+ok from algopy import BoxRef, Bytes, Contract, GlobalState, Txn, UInt64, log, op, subroutine, urange;class T(Contract):;    def approval_program(self) -> UInt64:;        return UInt64(6) * UInt64(7);    def clear_state_program(self) -> UInt64:;        return UInt64(1)
+ok from algopy import BoxRef, Bytes, Contract, GlobalState, Txn, UInt64, log, op, subroutine, urange;class T(Contract):;    def approval_program(self) -> UInt64:;        log(Bytes(b"a"));        log(Bytes(b"b"));        return UInt64(1);    def clear_state_program(self) -> UInt64:;        return UInt64(1)
 "#;
 
 /// As LINES; `~` stands for 98 parameters, `a0` the first.
@@ -898,6 +908,23 @@ fn long_literals(rt: HostRuntime) -> Result<(), Fail> {
         alloc,
         format!(in alloc; "P14 B = `b\"{long}\"")?.as_str(),
     )
+}
+
+/// What begins a subroutine.
+const FLAGGED: &str = "@subroutine;def f(c: bool) -> bool:;    ";
+
+#[test]
+fn long_texts(rt: HostRuntime) -> Result<(), Fail> {
+    let alloc = rt.alloc();
+    let fits = long_text(alloc, 4096)?;
+    let row = format!(in alloc; "ok {FLAGGED}assert c, \"{fits}\";    return c")?;
+    check_lines(&rt, alloc, row.as_str())?;
+    let row = format!(in alloc; "P14 {FLAGGED}assert c, `\"{fits}a\";    return c")?;
+    check_lines(&rt, alloc, row.as_str())?;
+    let row = format!(in alloc; "P14 {FLAGGED}`\"{fits}a\";    return c")?;
+    check_lines(&rt, alloc, row.as_str())?;
+    let row = format!(in alloc; "P14 {FLAGGED}x = String(`\"{fits}\" \"a\");    return d")?;
+    check_lines(&rt, alloc, row.as_str())
 }
 
 #[test]
