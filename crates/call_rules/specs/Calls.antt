@@ -167,6 +167,10 @@ slot_hope c (wrong r p) = hope.Unknown
 slot_hope c (at i) = hope_at c i
 slot_hope c beyond = hope.Free
 
+abbrev pub is_nothing_admitted : Admits → Bool
+is_nothing_admitted class.Nothing = true
+is_nothing_admitted _ = false
+
 -- whether a literal stays one there: where a type is called, in `from_hex`, as the step of `urange`, and behind the last parameter
 abbrev pub takes_literal : Callee → ℕ → Bool
 takes_literal (a_type s) i = true
@@ -174,7 +178,7 @@ takes_literal from_hex i = true
 takes_literal ranges i = nat_le 2 i
 takes_literal no_callee i = true
 takes_literal (a_function n s) i = false
-takes_literal (a_form f) i = nat_lt 3 i
+takes_literal (a_form f) i = is_nothing_admitted (admitted f i)
 takes_literal logs i = false
 takes_literal unknown_callee i = false
 
@@ -316,10 +320,6 @@ abbrev pub call_function : Place → ℕ → Signature → List Known → Judged
 call_function p n s ks =
     let f = fitted (param_test s) ks in
     counted p (length ks == length s.params) (with_fitted p f (called p n s.result f.order))
-
-abbrev pub is_nothing_admitted : Admits → Bool
-is_nothing_admitted class.Nothing = true
-is_nothing_admitted _ = false
 
 -- how many arguments a form takes
 abbrev pub form_count : Form → ℕ

@@ -150,6 +150,15 @@ pub fn hope_at(
     }
 }
 
+pub(crate) fn is_nothing_admitted(admits: Admits) -> bool
+    ensures { result ≡ spec.is_nothing_admitted admits }
+{
+    match admits {
+        Admits::Nothing => true,
+        _ => false,
+    }
+}
+
 #[tactic(auto, using(crate::proofs::CalleeLaws::takes_same))]
 /// Whether a literal stays one as the argument for the parameter of this number.
 pub fn takes_literal(callee: Callee, i: usize) -> bool
@@ -160,7 +169,7 @@ pub fn takes_literal(callee: Callee, i: usize) -> bool
         Callee::FromHex => true,
         Callee::Ranges => i >= 2,
         Callee::Nothing => true,
-        Callee::Form(_) => i > 3,
+        Callee::Form(form) => is_nothing_admitted(admitted(&form, i)),
         Callee::Function(_) => false,
         Callee::Logs => false,
         Callee::Unknown => false,

@@ -5,8 +5,9 @@ ghost use Rattle.call_rules.specs.Calls as spec;
 ghost use Rattle.call_rules.specs.Callings as callings;
 
 use crate::arguments::Known;
+use crate::callee::is_nothing_admitted;
 use crate::fitting::{Fitted, fitted_form, fitted_log, fitted_params};
-use algopy_library::{Admits, Form, Scalar};
+use algopy_library::{Form, Scalar};
 use awst::{ExprKind, Exprs, Order, Primitive};
 use meaning_rules::{Meaning, breaks, copied, node};
 use path_rules::Notes;
@@ -83,15 +84,6 @@ pub(crate) fn call_function(
         with_params(alloc, into, place, function, signature, known)
     } else {
         breaks(into, Rule::P15, place)
-    }
-}
-
-fn is_nothing_admitted(admits: Admits) -> bool
-    ensures { result ≡ spec.is_nothing_admitted admits }
-{
-    match admits {
-        Admits::Nothing => true,
-        _ => false,
     }
 }
 

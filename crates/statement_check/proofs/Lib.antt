@@ -8,3 +8,4 @@ mod Turns
 mod Naming
 mod Adding
 mod Fitting
+mod Single
