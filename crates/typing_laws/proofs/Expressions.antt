@@ -28,10 +28,10 @@ use Rattle.call_rules.specs.Calls as calls
 use Rattle.expression_check.specs.Expressions.{judge, parts, items, end, arguments, at_place, at_meaning, in_parens}
 use Rattle.typing_laws.proofs.Good.{World, Always, Gives, Reading, Within, GoodScope, GoodTyped, GoodMeaning, GoodJudged, GoodParts, GoodEnded, GoodLit}
 use Rattle.typing_laws.proofs.Giving.{gives_none, gives_broken, gives_then, gives_map}
-use Rattle.typing_laws.proofs.TypeLaws.{kept_scalar}
+use Rattle.typing_laws.proofs.TypeLaws.{kept_scalar, scalar_is}
+use Rattle.typing_laws.proofs.Nodes as nodes
 use Rattle.typing_laws.proofs.Meanings.{operand_good, value_good}
 use Rattle.typing_laws.proofs.Operators.{name_good, member_good, binary_good, unary_good, choose_good, no_parts_good, and_part_good, tuple_good, and_item_reading, display_good, based_good, index_good, end_good, slice_good}
-use Rattle.typing_laws.proofs.CallTrees.{bare-Flag, scalar_plain, good_node}
 use Rattle.typing_laws.proofs.Ordering.{arguments_fresh, arguments_counting}
 use Rattle.typing_laws.proofs.Calls.{GoodCallee, GoodKnownsWhen, Placed, callee_good, given_good, and_given_good, call_good}
 
@@ -46,7 +46,7 @@ short_good w p b l h = short_good_by w p b l (is_short b) refl h
 
 flag_good : (w : World) (p : Place) (b : Bool) → GoodJudged w Always (node p (ty.Scalar scalar.Bool) (kind.Flag b))
 flag_good w p b = gives_none w Always (GoodTyped w (a_node p (ty.Scalar scalar.Bool) (kind.Flag b))) (λ t.
-    good_node w p (ty.Scalar scalar.Bool) (kind.Flag b) (kind_layer (ExprKind-F.Flag b)) (bare-Flag b) (scalar_plain scalar.Bool) tt (λ n. kept_scalar scalar.Bool))
+    nodes.flag_good w p b)
 
 -- ---- parentheses
 

@@ -2,13 +2,12 @@ mod Good
 mod Moving
 mod Agreeing
 mod TypeLaws
+mod Nodes
 mod Annotated
-mod CallTrees
 mod Giving
 mod CallParts
 mod Ordering
 mod CallForms
-mod Nodes
 mod Meanings
 mod CallTypes
 mod Calls

@@ -31,9 +31,6 @@ use Rattle.typing_laws.proofs.Good.{World, Within, FormWithin, AllWithin, value_
 
 -- ---- the plain form of each kind
 
-
-
-
 pub bare-Int : (n : ℕ) → bare_of (kind.Int n) ≡ kind_layer (ExprKind-F.Int n)
 bare-Int n = ap bare_of (sym (kind.rolls-Int n)) ∙ fold-roll-ExprKind Bare Which Ex kind_layer index_layer expr_layer (ExprKind-F.Int n)
 

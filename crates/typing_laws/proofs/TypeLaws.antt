@@ -20,7 +20,7 @@ use Rattle.source_names.specs.declared.types.SourceType.TheViews.{roll-out-Sourc
 use Rattle.source_names.specs.declared.types.SourceType.TheFolds.{ind-SourceType, fold-roll-SourceType, map-SourceType}
 use Rattle.source_names.specs.Types.{T, Ts, one, ts_of, plain, same, sames, same_type, same_scalar, typed, typed_scalar, typed_layer, type_layer, scalar_in, scalar_of, nothing_in, parts_in, tuple_parts, is_nothing}
 use Rattle.source_names.specs.Types as source
-use Rattle.source_names.specs.Equations.{typed-Scalar, typed-Tuple}
+use Rattle.source_names.specs.Equations.{typed-Scalar, typed-Nothing, typed-Tuple}
 use Rattle.typing_laws.proofs.Good.{value_type, IsKeptType, EachKept}
 
 -- ---- types of one value
@@ -44,6 +44,9 @@ scalar_is s = ap type_of (typed-Scalar s) ∙ type_scalar s
 
 type_nothing : type_of awst.Nothing ≡ nothing
 type_nothing = ap type_of (sym awst.rolls-Nothing) ∙ fold-roll-Ty ValueType types.type_layer Ty-F.Nothing
+
+pub value_nothing : value_type ty.Nothing ≡ nothing
+value_nothing = ap type_of typed-Nothing ∙ type_nothing
 
 -- ---- a type is what its plain form says
 
