@@ -28,7 +28,7 @@ use Rattle.typing_laws.proofs.Good.{value_type, GoodTyped, GoodLit, GoodOption, 
 use Rattle.typing_laws.proofs.TypeLaws.{same_value}
 use Rattle.typing_laws.proofs.Meanings.{literal_good}
 use Rattle.typing_laws.proofs.Fixing.{none_some, some_same}
-use Rattle.typing_laws.proofs.Scalars.{is_update, FitsUpdate, update_fits}
+use Rattle.typing_laws.proofs.Updates.{is_update, FitsUpdate, update_fits}
 use Rattle.typing_laws.proofs.Anywhere.{anywhere, allows_all, operand_given}
 use Rattle.typing_laws.proofs.Placing.{SoundWhen, update_sound}
 

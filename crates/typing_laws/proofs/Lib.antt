@@ -28,14 +28,13 @@ mod Readings
 mod Telling
 mod Assigning
 mod Placing
-mod Scalars
+mod Updates
 mod Augmenting
 mod Taking
 mod Compound
 mod Keeping
 mod Quieting
 mod Unpacking
-mod Updates
 mod Simple
 mod Checked
 mod Sources

@@ -37,8 +37,7 @@ use Rattle.typing_laws.proofs.Placing.{SoundWhen, none_sound, drop_sound, assert
 use Rattle.typing_laws.proofs.Taking.{Exists, variable_exists, exists_later, slots_exist}
 use Rattle.typing_laws.proofs.Unpacking.{variable_sound, unpack_sound}
 use Rattle.typing_laws.proofs.Augmenting.{augment_sound}
-use Rattle.typing_laws.proofs.Updates.{LineUpdates}
-use Rattle.typing_laws.proofs.Scalars.{is_update}
+use Rattle.typing_laws.proofs.Updates.{is_update, LineUpdates}
 
 module _ (names : Names) (within : Within) where
   -- ---- returns, assertions, expressions
