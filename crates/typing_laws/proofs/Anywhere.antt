@@ -15,6 +15,7 @@ use Rattle.meaning_rules.specs.declared.scope.Status.TheVariants as status
 use Rattle.meaning_rules.specs.Meanings.{Valued, value, condition, operand_of}
 use Rattle.expression_check.specs.Expressions.{judge}
 use Rattle.statement_check.specs.Statements.{seeing, for_status, type_in}
+use Rattle.typing_laws.proofs.Readings.{allows_all}
 use Rattle.typing_laws.proofs.Good.{World, Always, Gives, IsAllowed, Allows, GoodNames, GoodScope, Settled, KeptLocals, GoodOption, GoodValued, GoodMeaning, GoodCondition, GoodOperand}
 use Rattle.typing_laws.proofs.Meanings.{value_good, required_good, condition_good, operand_good}
 use Rattle.typing_laws.proofs.Expressions.{judge_good}
@@ -24,23 +25,6 @@ use Rattle.typing_laws.proofs.Growing.{kept_settled}
 -- each variable may be read
 abbrev pub anywhere : Names → World
 anywhere names = record { names = names; reads = λ x. true }
-
-allowed : (f : Step) → IsAllowed (λ x. true) f
-allowed (broken r) = tt
-allowed (read x p) = refl
-allowed (assign x) = tt
-allowed (forget x) = tt
-allowed (arm always body) = tt
-allowed (choice fs) = tt
-allowed may_end = tt
-allowed (loop fs) = tt
-allowed (break p) = tt
-allowed (continue p) = tt
-allowed return = tt
-
-pub allows_all : (ns : List Note) → Allows (λ x. true) ns
-allows_all [] = tt
-allows_all (n ∷ ns) = (allowed (step_of n), allows_all ns)
 
 pub given : (names : Names) (Q : Type 0) (ns : List Note) → Gives (anywhere names) Always ns Q → Q
 given names Q ns g = g.holds tt (allows_all ns)

@@ -33,7 +33,7 @@ use Rattle.source_names.specs.Equations.{plain-Nothing}
 use Rattle.typing_laws.proofs.Good.{World, Gives, Reading, GoodMeaning, GoodForm, Admitted, KnowsFunction, IsResultType, value_type}
 use Rattle.typing_laws.proofs.Giving.{reading_broken, gives_none, gives_broken, gives_reading, gives_then}
 use Rattle.typing_laws.proofs.TypeLaws.{same_value, scalar_value, scalar_value_is, scalar_type, scalar_is, value_nothing}
-use Rattle.typing_laws.proofs.Nodes.{bare-Prim, bare-Call, node_good}
+use Rattle.typing_laws.proofs.Nodes.{bare-Call, node_good, strict_good}
 use Rattle.typing_laws.proofs.CallParts.{GoodKnowns, Passed, Tells, fitted_passed, fitted_reading, fitted_order, known_types, passed_count, passed_parts}
 use Rattle.typing_laws.proofs.Ordering.{Fresh, Counting, fresh_order}
 
@@ -107,7 +107,7 @@ called_good w p n g ks es order (Some t) r d l f h = gives_none w _ _ (λ k.
       all_given = fresh_order (length knows.signature.params) ks (l ∙ sym knows.count) (subst (λ m. Fresh [] m ks) (sym knows.count) f);
       types = given_types knows.signature.params ks es given ∙ sym (ap (map Some) made.types);
     } in
-    node_good w p t (kind.Call n es order) (kind_layer (ExprKind-F.Call n (map tree_of es) order)) (bare-Call n es order)
+    node_good w p t _ _ (bare-Call n es order)
       (made.sound, subst (λ z. IsCall w.names n z (types_in (trees_of es)) (value_type t)) (sym d) is_call) made.reads (knows.result t r).1)
 
 pub function_good : (w : World) (p : Place) (n : ℕ) (g : Signature) (ks : List Known) → (length ks ≡ length g.params → Fresh [] (length g.params) ks)
@@ -148,8 +148,7 @@ form_good w p f ks c =
         let made = passed_parts w (Takes f) ks es given k.1 in
         let t = results_type f.results f.result in
         let fits = k.0.0 (known_types ks) (passed_count (Takes f) ks es given ∙ eqb-true (length ks) (form_count f) e) (all_admitted f 0 ks es given c) in
-        node_good w p t (kind.Prim f.prim es) (kind_layer (ExprKind-F.Prim f.prim (map tree_of es))) (bare-Prim f.prim es)
-          (made.sound, subst (λ z. Fits (shape_of f.prim) z (value_type t)) (sym made.types) fits) made.reads k.0.1)))
+        strict_good w p t f.prim es made.sound made.reads (subst (λ z. Fits (shape_of f.prim) z (value_type t)) (sym made.types) fits) k.0.1)))
 
 -- ---- `log`
 
@@ -197,5 +196,5 @@ log_good w p ks =
       fitted_good w P p fit own (fitted_reading log_test (λ i t. passes_reading (logged_when (scalar_of t.ty)) t) ks) (λ es h. gives_none w P _ (λ k.
         let given = fitted_passed log_test Logs (λ i t u z. passes_tells (logged_when (scalar_of t.ty)) t u z) ks es h in
         let made = passed_parts w Logs ks es given k in
-        node_good w p ty.Nothing (kind.Prim prim.Log es) (kind_layer (ExprKind-F.Prim prim.Log (map tree_of es))) (bare-Prim prim.Log es)
-          (made.sound, subst (λ z. Fits logs_all z (value_type ty.Nothing)) (sym made.types) (log_fits ks es (leb-true 1 (length ks) e) given)) made.reads nothing_result)))
+        strict_good w p ty.Nothing prim.Log es made.sound made.reads
+          (subst (λ z. Fits logs_all z (value_type ty.Nothing)) (sym made.types) (log_fits ks es (leb-true 1 (length ks) e) given)) nothing_result)))

@@ -33,8 +33,7 @@ use Rattle.typing_laws.proofs.Good.{World, Gives, GoodTyped, GoodLit, GoodMeanin
 use Rattle.typing_laws.proofs.Giving.{gives_none, gives_broken, gives_both, gives_map}
 use Rattle.typing_laws.proofs.TypeLaws.{same_value, scalar_value, kept_scalar, scalar_value_is, scalar_type, scalar_is}
 use Rattle.typing_laws.proofs.Nodes as nodes
-use Rattle.typing_laws.proofs.Nodes.{bare-Prim, node_good}
-use Rattle.typing_laws.proofs.Meanings.{literal_good, fits_good, fits_type_is}
+use Rattle.typing_laws.proofs.Meanings.{literal_good, fits_good, fits_type_is, literal_type}
 use Rattle.typing_laws.proofs.CallParts.{GoodKnown, GoodKnowns}
 
 -- ---- literals, and values of one part
@@ -46,7 +45,7 @@ literal_node w p (lit.Bytes b) h = nodes.bytes_good w p b h
 
 one_part : (w : World) (p : Place) (s : Scalar) (q : Primitive) (t : Typed) → GoodTyped w t → Fits (shape_of q) (ty_of (tree_of t.expr) ∷ []) (value_type (ty.Scalar s)) → GoodTyped w (a_node p (ty.Scalar s) (kind.Prim q (t.expr ∷ [])))
 one_part w p s q t g f =
-    node_good w p (ty.Scalar s) (kind.Prim q (t.expr ∷ [])) (kind_layer (ExprKind-F.Prim q (tree_of t.expr ∷ []))) (bare-Prim q (t.expr ∷ [])) ((g.sound, tt), f) (g.reads, tt) (λ h. kept_scalar s)
+    nodes.strict_good w p (ty.Scalar s) q (t.expr ∷ []) (g.sound, tt) (g.reads, tt) f (λ h. kept_scalar s)
 
 tree_type : (w : World) (t : Typed) (s : Scalar) → GoodTyped w t → scalar_of t.ty ≡ Some s → ty_of (tree_of t.expr) ≡ scalar_type s
 tree_type w t s g e = g.type_is ∙ (scalar_value_is t.ty s e)
@@ -153,10 +152,6 @@ number_when : (w : World) (o : Option Typed) → ((u : Typed) → o ≡ Some u �
 number_when w None h g = tt
 number_when w (Some t) h g = (g.0, g.0.type_is ∙ (h t refl ∙ scalar_is scalar.UInt64))
 
-literal_type_by : (t : SourceType) (q : Place) (l : Lit) (b : Bool) (u : Typed) → same_type t (lit_type l) ≡ b → (if b then a_typed (lit_node q l) else value_breaks rule.P14 q).typed ≡ Some u → value_type u.ty ≡ value_type t
-literal_type_by t q l true u e h = ap (λ (v : Typed). value_type v.ty) (sym (same_Some (lit_node q l) u h)) ∙ sym (same_value t (lit_type l) e)
-literal_type_by t q l false u e h = absurd (none-some u h)
-
 bound_good : (w : World) (k : Known) → Gives w (GoodKnown w k) (bound k).notes (GoodNumber w (bound k).typed)
 bound_good w (value_at i t) =
     let v = fits_type (ty.Scalar scalar.UInt64) t in
@@ -164,7 +159,7 @@ bound_good w (value_at i t) =
 bound_good w (literal_at i q l) =
     let n = ty.Scalar scalar.UInt64 in
     let v = literal (hope.Wants n) q l in
-    gives_map w (GoodLit l) (GoodOption w v.typed) (GoodLit l) (GoodNumber w v.typed) v.notes (λ h. h) (number_when w v.typed (λ u. literal_type_by n q l (same_type n (lit_type l)) u refl)) (literal_good w (hope.Wants n) q l)
+    gives_map w (GoodLit l) (GoodOption w v.typed) (GoodLit l) (GoodNumber w v.typed) v.notes (λ h. h) (number_when w v.typed (literal_type n q l)) (literal_good w (hope.Wants n) q l)
 
 no_step_good : (w : World) (P : Type 0) (p : Place) → Gives w P (no_step p).notes (GoodStep (no_step p).step)
 no_step_good w P p = gives_broken w P (Unit {0}) rule.P15 p (λ t. tt)

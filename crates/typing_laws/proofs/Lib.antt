@@ -1,3 +1,4 @@
+mod Truths
 mod Good
 mod Moving
 mod Agreeing

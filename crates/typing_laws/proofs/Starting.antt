@@ -12,17 +12,14 @@ use Rattle.path_rules.proofs.Equations.{step-Assign}
 use Rattle.path_rules.proofs.WalkLaws.{on_before}
 use Rattle.source_names.specs.declared.signature.Parameter.{Parameter}
 use Rattle.type_check.specs.Functions.{assigned_from}
-
-pub steps_append : (a b : List Note) → steps_of (a ++ b) ≡ before (steps_of a) (steps_of b)
-steps_append [] b = refl
-steps_append (n ∷ ns) b = ap (a_step (step_of n)) (steps_append ns b)
+use Rattle.typing_laws.proofs.Agreeing.{steps-append}
 
 told_behind : (inside : Bool) (fs gs : Steps) (r : Refusal) → TellAll inside gs r → TellAll inside (before fs gs) r
 told_behind inside no_steps gs r h = h
 told_behind inside (a_step f fs) gs r h = inr (told_behind inside fs gs r h)
 
 pub notes_behind : (inside : Bool) (a b : List Note) (r : Refusal) → TellAll inside (steps_of b) r → TellAll inside (steps_of (a ++ b)) r
-notes_behind inside a b r h = subst (λ z. TellAll inside z r) (sym (steps_append a b)) (told_behind inside (steps_of a) (steps_of b) r h)
+notes_behind inside a b r h = subst (λ z. TellAll inside z r) (sym (steps-append a b)) (told_behind inside (steps_of a) (steps_of b) r h)
 
 below_by : (x i : ℕ) (b c : Bool) → (x == i) ≡ b → nat_lt x i ≡ c → (if b then true else c) ≡ nat_lt x (i + 1)
 below_by x i true c e k = sym (lt-ltb x (i + 1) (omega (arith, eqb-true x i e)))
@@ -44,4 +41,4 @@ walk_assigned x (p ∷ ps) i n e =
 pub walk_started : (x : ℕ) (ps : List Parameter) (b : List Note) (w : Way) (t : Bool) → Walks x (steps_of b) (nat_lt x (length ps)) w t → Walks x (steps_of (assigned_from 0 ps ++ b)) false w t
 walk_started x ps b w t h =
     let first = subst (λ s. Walks x (steps_of (assigned_from 0 ps)) s (out goes) (nat_lt x (length ps))) (le-ltb x 0 (omega arith)) (walk_assigned x ps 0 (length ps) (omega arith)) in
-    subst (λ z. Walks x z false w t) (sym (steps_append (assigned_from 0 ps) b)) (on_before x (steps_of (assigned_from 0 ps)) (steps_of b) false (nat_lt x (length ps)) w t first h)
+    subst (λ z. Walks x z false w t) (sym (steps-append (assigned_from 0 ps) b)) (on_before x (steps_of (assigned_from 0 ps)) (steps_of b) false (nat_lt x (length ps)) w t first h)

@@ -13,6 +13,7 @@ use Rattle.source_names.specs.declared.types.SourceType.{SourceType}
 use Rattle.source_names.specs.Types.{scalar_of}
 use Rattle.meaning_rules.specs.Operations.{operation_at}
 use Rattle.statement_check.specs.Lines.{Line, augment, St, line, if_else, while_do, for_in, Sts, no_stmts, a_stmt, Branches, otherwise, a_branch}
+use Rattle.typing_laws.proofs.Truths.{never}
 use Rattle.typing_laws.proofs.Good.{value_type}
 use Rattle.typing_laws.proofs.TypeLaws.{scalar_type, scalar_value_is}
 use Rattle.typing_laws.proofs.Fitting.{FitsWhen, twice, between_fits}
@@ -48,27 +49,24 @@ abbrev GivesSame : Scalar → Option Operation → Type 0
 GivesSame s None = Unit {0}
 GivesSame s (Some o) = o.result ≡ s
 
-not_update : {A : Type 0} → false ≡ true → A
-not_update e = absurd (cc)
-
 equality_same : (o : Operator) (s : Scalar) → IsTrue (is_update o) → GivesSame s (equality o)
-equality_same op.Equal s h = not_update h
-equality_same op.NotEqual s h = not_update h
+equality_same op.Equal s h = never h
+equality_same op.NotEqual s h = never h
 equality_same _ s h = tt
 
 joining_same : (o : Operator) (s : Scalar) → IsTrue (is_update o) → GivesSame s (joining o s)
 joining_same op.Add s h = refl
-joining_same op.Equal s h = not_update h
-joining_same op.NotEqual s h = not_update h
+joining_same op.Equal s h = never h
+joining_same op.NotEqual s h = never h
 joining_same _ s h = tt
 
 arithmetic_same : (o : Operator) → IsTrue (is_update o) → GivesSame scalar.UInt64 (arithmetic o)
-arithmetic_same op.Less h = not_update h
-arithmetic_same op.Greater h = not_update h
-arithmetic_same op.AtMost h = not_update h
-arithmetic_same op.AtLeast h = not_update h
-arithmetic_same op.Equal h = not_update h
-arithmetic_same op.NotEqual h = not_update h
+arithmetic_same op.Less h = never h
+arithmetic_same op.Greater h = never h
+arithmetic_same op.AtMost h = never h
+arithmetic_same op.AtLeast h = never h
+arithmetic_same op.Equal h = never h
+arithmetic_same op.NotEqual h = never h
 arithmetic_same op.Div h = tt
 arithmetic_same _ h = refl
 
