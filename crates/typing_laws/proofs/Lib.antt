@@ -19,7 +19,6 @@ mod Indexes
 mod Forms
 mod Members
 mod Names
-mod Operators
 mod Expressions
 mod Fixing
 mod Growing
