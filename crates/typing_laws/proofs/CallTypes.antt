@@ -1,37 +1,35 @@
--- Calls of types, of `from_hex` and of `urange`.
-use Rattle.std.proofs.Common.{◌≡◌, ℕ, zero, suc, ◌*◌, ◌+◌, ◌≤◌, inl, inr, ◌∙◌, Bool, true, false, List, [], ◌∷◌, ◌++◌, length, Option, Some, None, refl, sym, ap, subst, arith}
+-- Calls of types, of `from_hex` and of `urange` are good where their arguments are.
+use Rattle.std.proofs.Common.{◌≡◌, ℕ, zero, suc, ◌*◌, ◌+◌, ◌≤◌, ◌∙◌, Bool, true, false, List, [], ◌∷◌, ◌++◌, length, Option, Some, None, refl, ap, subst, arith}
 use Rattle.std.proofs.lemmas.Option.{none-some, same_Some}
 use Rattle.std.specs.Prelude.{if◌then◌else◌, IsTrue}
 use Rattle.puya_base.specs.declared.source.Place.{Place}
 use Rattle.puya_base.specs.declared.source.Rule.TheVariants as rule
 use Rattle.awst.specs.declared.expression.ExprKind.TheVariants as kind
-use Rattle.awst.specs.declared.expression.ExprKind.TheOpen.{ExprKind-F}
 use Rattle.awst.specs.declared.primitive.Primitive.{Primitive}
 use Rattle.awst.specs.declared.primitive.Primitive.TheVariants as prim
 use Rattle.awst.specs.Types.{uint64}
 use Rattle.awst.specs.Tree.{Ex}
 use Rattle.awst.specs.Shapes.{Fits, shape_of, has_truth}
-use Rattle.awst.specs.Plain.{kind_layer, tree_of}
+use Rattle.awst.specs.Plain.{tree_of}
 use Rattle.awst.specs.Sound.{ty_of}
 use Rattle.py_lexer.specs.Numbers.{digit_value}
 use Rattle.algopy_library.specs.declared.scalar.Scalar.{Scalar}
 use Rattle.algopy_library.specs.declared.scalar.Scalar.TheVariants as scalar
 use Rattle.algopy_library.specs.Operators as library
-use Rattle.source_names.specs.declared.types.SourceType.{SourceType}
 use Rattle.source_names.specs.declared.types.SourceType.TheVariants as ty
-use Rattle.source_names.specs.Types.{same_type, scalar_of}
+use Rattle.source_names.specs.Types.{scalar_of}
 use Rattle.meaning_rules.specs.declared.meaning.Typed.{Typed}
 use Rattle.meaning_rules.specs.declared.meaning.Lit.{Lit}
 use Rattle.meaning_rules.specs.declared.meaning.Lit.TheVariants as lit
 use Rattle.meaning_rules.specs.declared.meaning.Hope.TheVariants as hope
 use Rattle.meaning_rules.specs.declared.meaning.Meaning.TheVariants as meaning
-use Rattle.meaning_rules.specs.Meanings.{a_node, a_typed, value_breaks, says, breaks, literal, lit_node, lit_type, fits_type}
+use Rattle.meaning_rules.specs.Meanings.{a_node, says, breaks, literal, lit_node, fits_type}
 use Rattle.call_rules.specs.declared.arguments.Known.{Known}
 use Rattle.call_rules.specs.declared.arguments.Known.TheVariants.{Value as value_at, Literal as literal_at}
 use Rattle.call_rules.specs.Calls.{empty_of, same_lit, number_of_value, truth_when, of_value, of_known, call_type, with_pair, hex_bytes, hex_data, hex_literal, call_hex, bound, Stepped, no_step, step_number, step_literal, step_of, step_one, range_from, range_to, range_parts, call_range}
 use Rattle.typing_laws.proofs.Good.{World, Gives, GoodTyped, GoodLit, GoodMeaning, GoodOption, IsKeptType, Within, value_type}
 use Rattle.typing_laws.proofs.Giving.{gives_none, gives_broken, gives_both, gives_map}
-use Rattle.typing_laws.proofs.TypeLaws.{same_value, scalar_value, kept_scalar, scalar_value_is, scalar_type, scalar_is}
+use Rattle.typing_laws.proofs.TypeLaws.{kept_scalar, scalar_value_is, scalar_type, scalar_is}
 use Rattle.typing_laws.proofs.Nodes as nodes
 use Rattle.typing_laws.proofs.Meanings.{literal_good, fits_good, fits_type_is, literal_type}
 use Rattle.typing_laws.proofs.CallParts.{GoodKnown, GoodKnowns}

@@ -4,8 +4,6 @@ use Rattle.std.specs.Prelude.{if◌then◌else◌}
 use Rattle.puya_base.specs.declared.source.Place.{Place}
 use Rattle.puya_base.specs.declared.source.Rule.TheVariants as rule
 use Rattle.awst.specs.declared.expression.ExprKind.TheVariants as kind
-use Rattle.awst.specs.declared.expression.ExprKind.TheOpen.{ExprKind-F}
-use Rattle.awst.specs.Plain.{kind_layer}
 use Rattle.awst.specs.Sound.{IsSound, ty_of}
 use Rattle.awst.proofs.Equations.{tree-Expr}
 use Rattle.algopy_library.specs.declared.scalar.Scalar.TheVariants as scalar
@@ -29,7 +27,6 @@ use Rattle.call_rules.specs.Calls as calls
 use Rattle.expression_check.specs.Expressions.{judge, parts, items, end, arguments, at_place, at_meaning, in_parens}
 use Rattle.typing_laws.proofs.Good.{World, Always, Gives, Reading, Within, GoodScope, GoodTyped, GoodMeaning, GoodJudged, GoodParts, GoodEnded, GoodLit}
 use Rattle.typing_laws.proofs.Giving.{reading_append, gives_none, gives_broken, gives_reading, gives_then, gives_map}
-use Rattle.typing_laws.proofs.TypeLaws.{kept_scalar, scalar_is}
 use Rattle.typing_laws.proofs.Nodes as nodes
 use Rattle.typing_laws.proofs.Meanings.{operand_good, value_good}
 use Rattle.typing_laws.proofs.Fitting.{either_good}

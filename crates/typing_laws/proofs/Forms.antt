@@ -15,7 +15,7 @@ use Rattle.source_names.specs.declared.types.SourceType.TheVariants as ty
 use Rattle.source_names.specs.Types.{scalar_of}
 use Rattle.call_rules.specs.Calls.{admits_scalar, results_type}
 use Rattle.typing_laws.proofs.Good.{Admitted, GoodMember, value_type}
-use Rattle.typing_laws.proofs.TypeLaws.{scalar_value, tuple_value, kept_scalar, kept_tuple, scalar_value_is, scalar_type, scalar_is}
+use Rattle.typing_laws.proofs.TypeLaws.{tuple_value, kept_scalar, kept_tuple, scalar_value_is, scalar_type, scalar_is}
 
 -- ---- what is admitted
 

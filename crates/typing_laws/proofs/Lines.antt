@@ -35,7 +35,7 @@ use Rattle.statement_check.specs.Statements.{seeing, assign_variable, annotated_
 use Rattle.typing_laws.proofs.Good.{Reading, Always, GoodNames, GoodScope, GoodJudged, Settled, KeptLocals, Later, Follows}
 use Rattle.typing_laws.proofs.Giving.{reading_append, reading_broken, reading_broken_all}
 use Rattle.typing_laws.proofs.Expressions.{judge_good}
-use Rattle.typing_laws.proofs.Growing.{later_itself, fixed_later, line_later, settled_before, kept_settled, value_later}
+use Rattle.typing_laws.proofs.Growing.{later_itself, line_later, settled_before, kept_settled, value_later}
 use Rattle.typing_laws.proofs.Keeping.{line_keeps}
 use Rattle.typing_laws.proofs.Readings.{Told, told_follow}
 use Rattle.typing_laws.proofs.Agreeing.{none_follow, notes_follow, break_follow, continue_follow, return_follow}

@@ -5,10 +5,7 @@ use Rattle.std.proofs.lemmas.Option.{none-some, same_Some}
 use Rattle.puya_base.specs.declared.source.Place.{Place}
 use Rattle.puya_base.specs.declared.source.Refusal.{Refusal}
 use Rattle.puya_base.specs.declared.source.Rule.TheVariants as rule
-use Rattle.awst.specs.declared.ty.Ty.TheVariants as awst
-use Rattle.awst.specs.declared.ty.Ty.TheOpen.{Ty-F}
-use Rattle.awst.specs.declared.ty.Ty.TheFolds.{fold-roll-Ty}
-use Rattle.awst.specs.Types.{ValueType, uint64, bool, type_of, type_layer}
+use Rattle.awst.specs.Types.{uint64, bool}
 use Rattle.py_grammar.specs.declared.module.Func.{Func}
 use Rattle.py_grammar.specs.declared.module.Class.{Class}
 use Rattle.py_grammar.specs.declared.module.Member.{Member}
@@ -16,17 +13,15 @@ use Rattle.py_grammar.specs.declared.module.Member.TheVariants as member
 use Rattle.algopy_library.specs.declared.scalar.Scalar.{Scalar}
 use Rattle.algopy_library.specs.declared.scalar.Scalar.TheVariants as scalar
 use Rattle.source_names.specs.declared.types.SourceType.{SourceType}
-use Rattle.source_names.specs.declared.types.SourceType.TheVariants as ty
 use Rattle.source_names.specs.declared.named.Entry.{Entry}
 use Rattle.source_names.specs.declared.signature.Parameter.{Parameter}
 use Rattle.source_names.specs.Types.{scalar_of}
-use Rattle.source_names.specs.Equations.{typed-Scalar}
 use Rattle.source_names.specs.Faults.{breaks}
 use Rattle.source_headers.specs.Headers.{signature, signature_faults, decorators, all_unwanted, twice}
 use Rattle.source_headers.specs.Classes.{functions, is_program, first_from, gives_truth, wrong_result, is_empty, program_faults, selfless, function_faults, member_faults, all_member_faults, member_names, missing, missing_programs, contract_faults}
 use Rattle.typing_laws.proofs.Truths.{never}
 use Rattle.typing_laws.proofs.Good.{value_type}
-use Rattle.typing_laws.proofs.TypeLaws.{scalar_value, scalar_value_is}
+use Rattle.typing_laws.proofs.TypeLaws.{scalar_value_is}
 
 -- ---- lists of broken rules that have none
 

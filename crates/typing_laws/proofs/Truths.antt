@@ -1,4 +1,4 @@
--- What follows where one truth is another, and where two hold.
+-- False is never true, and where two truths hold together, each of them holds.
 use Rattle.std.proofs.Common.{◌≡◌, Bool, true, false, refl}
 use Rattle.std.specs.Prelude.{◌&&◌}
 

@@ -1,6 +1,6 @@
--- Types of the source and the types of plain trees for them.
-use Rattle.std.proofs.Common.{◌≡◌, ◌∙◌, List, [], ◌∷◌, map, Bool, true, false, Some, refl, sym, ap, ap₂, subst}
-use Rattle.std.specs.Prelude.{◌&&◌, IsTrue}
+-- Which types of plain trees the types of the source have: those of scalars and of tuples, the same for the same type, and which are types of values.
+use Rattle.std.proofs.Common.{◌≡◌, ◌∙◌, List, [], ◌∷◌, map, true, Some, refl, sym, ap, ap₂, subst}
+use Rattle.std.specs.Prelude.{IsTrue}
 use Rattle.std.proofs.lemmas.Bool.{and_from}
 use denote.Enum.Bare.{same_true}
 use borrow.Author.Rules.{rules}

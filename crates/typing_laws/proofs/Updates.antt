@@ -1,4 +1,4 @@
--- The operators of augmented assignments: those that the source writes give the type of their operands.
+-- Operators of augmented assignments give the type of their operands, and what it is for statements to have such operators alone.
 use Rattle.std.proofs.Common.{◌≡◌, Bool, true, false, [], ◌∷◌, Option, Some, None, refl, sym, subst}
 use Rattle.std.specs.Prelude.{IsTrue}
 use Rattle.awst.specs.Types.{ValueType}
@@ -83,7 +83,8 @@ same_fits s (Some o) f e = subst (λ z. Fits (shape_of o.prim) (twice s) (scalar
 
 update_by : (o : Operator) (t : SourceType) (s : Option Scalar) → scalar_of t ≡ s → IsTrue (is_update o) → FitsUpdate (operation_at o s) (value_type t)
 update_by o t None e h = tt
-update_by o t (Some s) e h = subst (λ z. FitsUpdate (between o s) z) (sym (scalar_value_is t s e)) (same_fits s (between o s) (between_fits o s) (between_same o s h))
+update_by o t (Some s) e h =
+    subst (λ z. FitsUpdate (between o s) z) (sym (scalar_value_is t s e)) (same_fits s (between o s) (between_fits o s) (between_same o s h))
 
 pub update_fits : (o : Operator) (t : SourceType) → IsTrue (is_update o) → FitsUpdate (operation_at o (scalar_of t)) (value_type t)
 update_fits o t h = update_by o t (scalar_of t) refl h
