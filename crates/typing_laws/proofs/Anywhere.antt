@@ -15,7 +15,6 @@ use Rattle.meaning_rules.specs.declared.scope.Status.TheVariants as status
 use Rattle.meaning_rules.specs.Meanings.{Valued, value, condition, operand_of}
 use Rattle.expression_check.specs.Expressions.{judge}
 use Rattle.statement_check.specs.Statements.{seeing, for_status, type_in}
-use Rattle.typing_laws.proofs.Readings.{allows_all}
 use Rattle.typing_laws.proofs.Good.{World, Always, Gives, IsAllowed, Allows, GoodNames, GoodScope, Settled, KeptLocals, GoodOption, GoodValued, GoodMeaning, GoodCondition, GoodOperand}
 use Rattle.typing_laws.proofs.Meanings.{value_good, required_good, condition_good, operand_good}
 use Rattle.typing_laws.proofs.Expressions.{judge_good}
@@ -25,6 +24,24 @@ use Rattle.typing_laws.proofs.Growing.{kept_settled}
 -- each variable may be read
 abbrev pub anywhere : Names → World
 anywhere names = record { names = names; reads = λ x. true }
+
+-- where each variable may be read, notes read what they may
+pub allows_all : (ns : List Note) → Allows (λ y. true) ns
+allows_all [] = tt
+allows_all (n ∷ ns) = (allowed_step (step_of n), allows_all ns)
+  where
+    allowed_step : (f : Step) → IsAllowed (λ y. true) f
+    allowed_step (broken r) = tt
+    allowed_step (read y p) = refl
+    allowed_step (assign y) = tt
+    allowed_step (forget y) = tt
+    allowed_step (arm always body) = tt
+    allowed_step (choice fs) = tt
+    allowed_step may_end = tt
+    allowed_step (loop fs) = tt
+    allowed_step (break p) = tt
+    allowed_step (continue p) = tt
+    allowed_step return = tt
 
 pub given : (names : Names) (Q : Type 0) (ns : List Note) → Gives (anywhere names) Always ns Q → Q
 given names Q ns g = g.holds tt (allows_all ns)

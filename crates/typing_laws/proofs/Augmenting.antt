@@ -1,7 +1,7 @@
 -- Augmented assignments are sound.
 use Rattle.std.proofs.Common.{◌≡◌, ℕ, Bool, true, false, List, [], ◌∷◌, Option, Some, None, refl, sym, ap, ◌∙◌, subst}
 use Rattle.std.specs.Prelude.{IsTrue, if◌then◌else◌, slice_get}
-use Rattle.std.proofs.lemmas.Option.{none-some, same_Some}
+use Rattle.std.proofs.lemmas.Option.{same_Some}
 use Rattle.puya_base.specs.declared.source.Place.{Place}
 use Rattle.puya_base.specs.declared.source.Rule.TheVariants as rule
 use Rattle.awst.specs.Sound.{Names, Within}
@@ -21,17 +21,16 @@ use Rattle.meaning_rules.specs.declared.scope.Scope.{Scope}
 use Rattle.meaning_rules.specs.declared.scope.Local.{Local}
 use Rattle.meaning_rules.specs.declared.scope.Status.{Status}
 use Rattle.meaning_rules.specs.declared.scope.Status.TheVariants as status
-use Rattle.meaning_rules.specs.Meanings.{a_node, a_typed, lit_type, lit_node, literal, kept, operand_of, freely, value_breaks}
+use Rattle.meaning_rules.specs.Meanings.{a_node, a_typed, literal, kept, operand_of, freely, value_breaks}
 use Rattle.meaning_rules.specs.Operations.{has_between, operation_at, read_status}
 use Rattle.expression_check.specs.Expressions.{judge}
 use Rattle.statement_check.specs.Statements.{agreed, augmented, augmented_by, augmented_when, augment_variable}
-use Rattle.typing_laws.proofs.Readings.{allows_all}
 use Rattle.typing_laws.proofs.Good.{value_type, GoodTyped, GoodLit, GoodOption, GoodOperand, GoodScope, Sees, SeenType}
 use Rattle.typing_laws.proofs.TypeLaws.{same_value}
 use Rattle.typing_laws.proofs.Meanings.{literal_good, literal_type}
 use Rattle.typing_laws.proofs.Updates.{is_update, FitsUpdate, update_fits}
-use Rattle.typing_laws.proofs.Anywhere.{anywhere, operand_given}
-use Rattle.typing_laws.proofs.Placing.{SoundWhen, update_sound}
+use Rattle.typing_laws.proofs.Anywhere.{anywhere, allows_all, operand_given}
+use Rattle.typing_laws.proofs.StatementNodes.{SoundWhen, update_sound}
 
 -- ---- the variable that is read
 

@@ -1,5 +1,6 @@
--- Calls of functions, of the library's forms and of `log`.
-use Rattle.std.proofs.Common.{◌≡◌, ℕ, zero, suc, ◌≤◌, ◌∙◌, Bool, true, false, List, [], ◌∷◌, map, length, Option, Some, None, refl, sym, ap, subst, arith, eqb-true, leb-true}
+-- Calls of functions, of the library's forms and of `log` are good where their arguments are.
+use Rattle.std.proofs.Common.{◌≡◌, ℕ, suc, ◌≤◌, ◌∙◌, Bool, true, false, List, [], ◌∷◌, map, length, Option, Some, None, refl, sym, ap, subst, arith, eqb-true, leb-true}
+use Rattle.std.proofs.lemmas.List.Elements.{All-nil, All-cons}
 use Rattle.std.proofs.lemmas.Option.{none-some, same_Some}
 use Rattle.std.specs.Prelude.{◌==◌, nat_le, if◌then◌else◌, slice_get, IsTrue}
 use Rattle.std.specs.List.{All}
@@ -7,11 +8,10 @@ use Rattle.puya_base.specs.declared.source.Place.{Place}
 use Rattle.puya_base.specs.declared.source.Rule.TheVariants as rule
 use Rattle.awst.specs.declared.expression.Expr.{Expr}
 use Rattle.awst.specs.declared.expression.ExprKind.TheVariants as kind
-use Rattle.awst.specs.declared.expression.ExprKind.TheOpen.{ExprKind-F}
 use Rattle.awst.specs.declared.primitive.Primitive.TheVariants as prim
 use Rattle.awst.specs.Types.{ValueType}
 use Rattle.awst.specs.Shapes.{Fits, shape_of, is_logged, logs_all}
-use Rattle.awst.specs.Plain.{kind_layer, tree_of, trees_of}
+use Rattle.awst.specs.Plain.{trees_of}
 use Rattle.awst.specs.Sound.{types_in, IsCall}
 use Rattle.algopy_library.specs.declared.scalar.Scalar.{Scalar}
 use Rattle.algopy_library.specs.declared.scalar.Scalar.TheVariants as scalar
@@ -32,7 +32,7 @@ use Rattle.call_rules.specs.Calls.{Fitted, fitted, result_when, with_fitted, cou
 use Rattle.source_names.specs.Equations.{plain-Nothing}
 use Rattle.typing_laws.proofs.Good.{World, Gives, Reading, GoodMeaning, GoodForm, Admitted, KnowsFunction, IsResultType, value_type}
 use Rattle.typing_laws.proofs.Giving.{reading_broken, gives_none, gives_broken, gives_reading, gives_then}
-use Rattle.typing_laws.proofs.TypeLaws.{same_value, scalar_value, scalar_value_is, scalar_type, scalar_is, value_nothing}
+use Rattle.typing_laws.proofs.TypeLaws.{same_value, scalar_value_is, scalar_type, value_nothing}
 use Rattle.typing_laws.proofs.Nodes.{bare-Call, node_good, strict_good}
 use Rattle.typing_laws.proofs.CallParts.{GoodKnowns, Passed, Tells, fitted_passed, fitted_reading, fitted_order, known_types, passed_count, passed_parts}
 use Rattle.typing_laws.proofs.Ordering.{Fresh, Counting, fresh_order}
@@ -169,14 +169,11 @@ logged_by t (Some s) e h = subst (λ z. IsTrue (is_logged z)) (sym (scalar_value
 abbrev EachLogged : List ValueType → Type 0
 EachLogged ts = All (λ t. IsTrue (is_logged t)) ts
 
-logged_cons : (t : ValueType) (ts : List ValueType) → IsTrue (is_logged t) → EachLogged ts → EachLogged (t ∷ ts)
-logged_cons t ts h r zero d low = h
-logged_cons t ts h r (suc k) d low = r k d (omega (arith, low))
-
 all_logged : (ks : List Known) (es : List Expr) → Passed Logs ks es → EachLogged (map value_type (known_types ks))
-all_logged [] es h = λ k d low. absurd (omega (arith, low))
+all_logged [] es h = All-nil (λ t. IsTrue (is_logged t))
 all_logged (value_at i t ∷ ks) [] h = absurd h
-all_logged (value_at i t ∷ ks) (e ∷ es) h = logged_cons (value_type t.ty) (map value_type (known_types ks)) (logged_by t.ty (scalar_of t.ty) refl h.1) (all_logged ks es h.2)
+all_logged (value_at i t ∷ ks) (e ∷ es) h =
+    All-cons (λ t. IsTrue (is_logged t)) (value_type t.ty) (map value_type (known_types ks)) (logged_by t.ty (scalar_of t.ty) refl h.1) (all_logged ks es h.2)
 all_logged (literal_at i q l ∷ ks) es h = absurd h
 
 log_fits : (ks : List Known) (es : List Expr) → 1 ≤ length ks → Passed Logs ks es → Fits logs_all (map value_type (known_types ks)) (value_type ty.Nothing)

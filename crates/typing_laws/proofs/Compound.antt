@@ -27,7 +27,7 @@ use Rattle.statement_check.specs.Statements.{Done, done, stmt, behind_done, arm_
 use Rattle.typing_laws.proofs.Good.{value_type, GoodTyped, GoodCondition, GoodMeaning, GoodOperand, Settled}
 use Rattle.typing_laws.proofs.TypeLaws.{scalar_is, scalar_value_is, same_value}
 use Rattle.typing_laws.proofs.Anywhere.{anywhere}
-use Rattle.typing_laws.proofs.Placing.{AreSoundTyped, SoundWhen, both_sound, while_sound, range_sound, each_sound, SoundArms, no_arms_sound, arm_sound, if_sound}
+use Rattle.typing_laws.proofs.StatementNodes.{AreSoundTyped, SoundWhen, both_sound, while_sound, range_sound, each_sound, SoundArms, no_arms_sound, arm_sound, if_sound}
 use Rattle.typing_laws.proofs.Taking.{Exists, type_fixed}
 
 -- ---- one behind another

@@ -27,7 +27,7 @@ use Rattle.typing_laws.proofs.Good.{KnowsFunction, KnowsFunctions}
 use Rattle.typing_laws.proofs.Entries.{entries_good, constants_good}
 use Rattle.typing_laws.proofs.Functions.{typing, function_known}
 use Rattle.typing_laws.proofs.Headers.{signature_good}
-use Rattle.typing_laws.proofs.Placings.{EachOf, each_of_append, each_of_front, each_of_behind, each_of_from, function_at, headers, headers_known, HasGoodHeader, IsQuiet, SeesGood, functions_sound}
+use Rattle.typing_laws.proofs.PlacedFunctions.{EachOf, each_of_append, each_of_front, each_of_behind, each_of_from, function_at, headers, headers_known, HasGoodHeader, IsQuiet, SeesGood, functions_sound}
 use Rattle.typing_laws.proofs.Mains.{Found, front_none, behind_none, main_there, main_good, truth_type}
 
 -- ---- places in two lists

@@ -11,6 +11,7 @@ use Rattle.path_rules.specs.Steps.{Step, broken, read, assign, forget, arm, choi
 use Rattle.path_rules.specs.Walks as Walks
 use Rattle.typing_laws.proofs.Truths.{never}
 use Rattle.typing_laws.proofs.Good.{IsReading, IsAllowed, Reading, Allows, Within, FormWithin, AllWithin, Follows, Followed}
+use Rattle.typing_laws.proofs.Anywhere.{allows_all}
 
 -- ---- moves that are reads alone
 
@@ -154,24 +155,6 @@ stops_or_not x (n ∷ ns) h = elim (step_by x (step_of n) h.0) [
       })
     ]
   ]
-
--- where each variable may be read, notes read what they may
-pub allows_all : (ns : List Note) → Allows (λ y. true) ns
-allows_all [] = tt
-allows_all (n ∷ ns) = (allowed_step (step_of n), allows_all ns)
-  where
-    allowed_step : (f : Step) → IsAllowed (λ y. true) f
-    allowed_step (broken r) = tt
-    allowed_step (read y p) = refl
-    allowed_step (assign y) = tt
-    allowed_step (forget y) = tt
-    allowed_step (arm always body) = tt
-    allowed_step (choice fs) = tt
-    allowed_step may_end = tt
-    allowed_step (loop fs) = tt
-    allowed_step (break p) = tt
-    allowed_step (continue p) = tt
-    allowed_step return = tt
 
 -- ---- notes on expressions, and the moves of these
 

@@ -1,18 +1,13 @@
 -- Assignments to variables, alone and of the parts of a tuple, are sound.
 use Rattle.std.proofs.Common.{◌≡◌, ℕ, Bool, true, false, List, [], ◌∷◌, map, Option, Some, None, refl, sym, ap, ◌∙◌, subst}
 use Rattle.puya_base.specs.declared.source.Place.{Place}
-use Rattle.awst.specs.declared.expression.Expr.{Expr}
-use Rattle.awst.specs.declared.expression.ExprKind.TheOpen.{ExprKind-F, Index-F}
-use Rattle.awst.specs.declared.expression.ExprKind.TheFolds.{fold-roll-ExprKind, fold-roll-Index}
-use Rattle.awst.specs.declared.expression.ExprKind.TheVariants as value_kind
 use Rattle.awst.specs.declared.expression.Index.TheVariants as index
 use Rattle.awst.specs.declared.ty.Ty.{Ty}
 use Rattle.awst.specs.declared.statement.StmtKind.TheVariants as kind
 use Rattle.awst.specs.declared.statement.Target.{Target}
 use Rattle.awst.specs.declared.statement.Target.TheVariants as target
 use Rattle.awst.specs.Types.{tuple, types_of, type_of}
-use Rattle.awst.specs.Tree.{Ex}
-use Rattle.awst.specs.Plain.{Bare, Which, fixed as fixed_part, item, kind_layer, index_layer, expr_layer, tree_of, bare_of, which_of, typed as typed_tree, destination}
+use Rattle.awst.specs.Plain.{fixed as fixed_part, item, tree_of, typed as typed_tree, destination}
 use Rattle.awst.specs.Sound.{Names, Within, IsSound, Takes, TakeEach, TakeParts, ty_of}
 use Rattle.awst.proofs.Equations.{tree-Expr}
 use Rattle.source_names.specs.declared.types.SourceType.{SourceType}
@@ -34,7 +29,7 @@ use Rattle.typing_laws.proofs.TypeLaws.{parts_value}
 use Rattle.typing_laws.proofs.Nodes.{bare-Item, which-Fixed}
 use Rattle.typing_laws.proofs.Meanings.{required_type}
 use Rattle.typing_laws.proofs.Anywhere.{anywhere, judged_value, option_given, for_status_good}
-use Rattle.typing_laws.proofs.Placing.{SoundWhen, assign_sound, drop_sound}
+use Rattle.typing_laws.proofs.StatementNodes.{SoundWhen, assign_sound, drop_sound}
 use Rattle.typing_laws.proofs.Taking.{Exists, type_fixed, EachExists, all_take, take_each}
 
 -- ---- one variable
