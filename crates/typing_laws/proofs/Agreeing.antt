@@ -9,6 +9,7 @@ use Rattle.path_rules.specs.Steps.{Steps, no_steps, a_step, before, step_of, ste
 use Rattle.path_rules.specs.Walks as Walks
 use Rattle.path_rules.specs.Walks.{out, goes, leaves, is_on}
 use Rattle.path_rules.proofs.WalkLaws.{stop_before, on_before, one_to}
+use Rattle.typing_laws.proofs.Truths.{never}
 use Rattle.typing_laws.proofs.Good.{Agrees, Follows, Followed}
 use Rattle.typing_laws.proofs.Moving.{split, one_from}
 
@@ -60,12 +61,9 @@ read_agrees p (out Walks.continues) h = absurd h
 read_agrees p Walks.returns h = absurd h
 read_agrees p (Walks.at q) h = record { place = q; is = refl }
 
-pub neither : true ≡ false → ⊥
-neither e = cc
-
 -- one that does not go on does not
 pub stops_agree : (w : Way) (v : Walks.Way) → Agrees w v → Paths.is_going w ≡ false → is_on v ≡ false
-stops_agree Paths.goes_on v h e = absurd (neither e)
+stops_agree Paths.goes_on v h e = never (sym e)
 stops_agree Paths.at_break v h e = rw (break_agrees v h) refl
 stops_agree Paths.at_continue v h e = rw (continue_agrees v h) refl
 stops_agree Paths.at_end v h e = rw (end_agrees v h) refl

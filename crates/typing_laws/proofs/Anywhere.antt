@@ -25,22 +25,23 @@ use Rattle.typing_laws.proofs.Growing.{kept_settled}
 abbrev pub anywhere : Names → World
 anywhere names = record { names = names; reads = λ x. true }
 
-allowed : (f : Step) → IsAllowed (λ x. true) f
-allowed (broken r) = tt
-allowed (read x p) = refl
-allowed (assign x) = tt
-allowed (forget x) = tt
-allowed (arm always body) = tt
-allowed (choice fs) = tt
-allowed may_end = tt
-allowed (loop fs) = tt
-allowed (break p) = tt
-allowed (continue p) = tt
-allowed return = tt
-
-pub allows_all : (ns : List Note) → Allows (λ x. true) ns
+-- where each variable may be read, notes read what they may
+pub allows_all : (ns : List Note) → Allows (λ y. true) ns
 allows_all [] = tt
-allows_all (n ∷ ns) = (allowed (step_of n), allows_all ns)
+allows_all (n ∷ ns) = (allowed_step (step_of n), allows_all ns)
+  where
+    allowed_step : (f : Step) → IsAllowed (λ y. true) f
+    allowed_step (broken r) = tt
+    allowed_step (read y p) = refl
+    allowed_step (assign y) = tt
+    allowed_step (forget y) = tt
+    allowed_step (arm always body) = tt
+    allowed_step (choice fs) = tt
+    allowed_step may_end = tt
+    allowed_step (loop fs) = tt
+    allowed_step (break p) = tt
+    allowed_step (continue p) = tt
+    allowed_step return = tt
 
 pub given : (names : Names) (Q : Type 0) (ns : List Note) → Gives (anywhere names) Always ns Q → Q
 given names Q ns g = g.holds tt (allows_all ns)

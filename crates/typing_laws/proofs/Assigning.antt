@@ -1,6 +1,7 @@
 -- The walks of typed assignments are walks of the notes on them.
 use Rattle.std.proofs.Common.{◌≡◌, ℕ, Bool, true, false, List, [], ◌∷◌, ◌++◌, map, Option, Some, None, refl, sym, ◌∙◌, ap, subst, append_assoc}
 use Rattle.std.specs.Prelude.{slice_get, if◌then◌else◌}
+use Rattle.std.proofs.lemmas.Option.{none-some, same_Some}
 use Rattle.puya_base.specs.declared.source.Place.{Place}
 use Rattle.puya_base.specs.declared.source.Rule.TheVariants as rule
 use Rattle.awst.specs.declared.ty.Ty.{Ty}
@@ -44,7 +45,6 @@ use Rattle.typing_laws.proofs.Agreeing.{none_follow, notes_follow, sets_follow}
 use Rattle.typing_laws.proofs.Deeds.{moves_of, moves-Assign, moves-Augment, moves-Drop, moves-part}
 use Rattle.typing_laws.proofs.Telling.{told_behind, GoodValue, value_told, judged_value, status_value, slots_reading, read_told, agreed_value_good}
 
-
 -- typed statements follow notes
 abbrev pub AllFollow : List ValueType → List Note → Option (List Stmt) → Type 0
 AllFollow vs ns typed = (ss : List Stmt) → typed ≡ Some ss → (a : ℕ) → Follows (steps_of ns) (moves_of vs a ss)
@@ -52,19 +52,13 @@ AllFollow vs ns typed = (ss : List Stmt) → typed ≡ Some ss → (a : ℕ) →
 abbrev pub DoneFollows : List ValueType → Done → Type 0
 DoneFollows vs d = AllFollow vs d.notes d.typed
 
-pub none_some : {A : Type 0} → (a : A) → None ≡ Some a → ⊥
-none_some a e = cc
-
-pub some_is : {A : Type 0} → (a b : A) → Some a ≡ Some b → a ≡ b
-some_is a b e = cc
-
 -- nothing is typed
 pub untyped_follow : (vs : List ValueType) (ns : List Note) → AllFollow vs ns None
-untyped_follow vs ns ss e a = absurd (none_some ss e)
+untyped_follow vs ns ss e a = absurd (none-some ss e)
 
 -- these statements, which make those moves
 pub typed_follow : (vs : List ValueType) (ns : List Note) (ss : List Stmt) → ((a : ℕ) → Follows (steps_of ns) (moves_of vs a ss)) → AllFollow vs ns (Some ss)
-typed_follow vs ns ss h ts e a = subst (λ z. Follows (steps_of ns) (moves_of vs a z)) (some_is ss ts e) (h a)
+typed_follow vs ns ss h ts e a = subst (λ z. Follows (steps_of ns) (moves_of vs a z)) (same_Some ss ts e) (h a)
 
 pub moves_follow : (vs : List ValueType) (ns : List Note) (ss : List Stmt) (m : Moves) → ((a : ℕ) → moves_of vs a ss ≡ m) → Follows (steps_of ns) m → AllFollow vs ns (Some ss)
 moves_follow vs ns ss m e h = typed_follow vs ns ss (λ a. subst (λ z. Follows (steps_of ns) z) (sym (e a)) h)
@@ -100,14 +94,14 @@ assign_one_follow names s t None e g = untyped_follow names.variables _
 
 targets_by : (is : List (Option ℕ)) (i : ℕ) (o : Option (List Target)) (as_ : List Target) → ((bs : List Target) → o ≡ Some bs → Follows (steps_of (all_assigned is)) (all_set (map destination bs)))
     → both_targets (Some i) o ≡ Some as_ → Follows (steps_of (all_assigned (Some i ∷ is))) (all_set (map destination as_))
-targets_by is i None as_ h e = absurd (none_some as_ e)
+targets_by is i None as_ h e = absurd (none-some as_ e)
 targets_by is i (Some bs) as_ h e =
-    subst (λ z. Follows (steps_of (all_assigned (Some i ∷ is))) (all_set (map destination z))) (some_is (target.Local i ∷ bs) as_ e)
+    subst (λ z. Follows (steps_of (all_assigned (Some i ∷ is))) (all_set (map destination z))) (same_Some (target.Local i ∷ bs) as_ e)
     (notes_follow (note.Assign i ∷ []) (all_assigned is) (one (Paths.sets i) none) (all_set (map destination bs)) (note_sets i) (h bs refl))
 
 targets_follow : (is : List (Option ℕ)) (as_ : List Target) → slot_targets is ≡ Some as_ → Follows (steps_of (all_assigned is)) (all_set (map destination as_))
-targets_follow [] as_ e = subst (λ z. Follows steps.no_steps (all_set (map destination z))) (some_is [] as_ e) none_follow
-targets_follow (None ∷ is) as_ e = absurd (none_some as_ e)
+targets_follow [] as_ e = subst (λ z. Follows steps.no_steps (all_set (map destination z))) (same_Some [] as_ e) none_follow
+targets_follow (None ∷ is) as_ e = absurd (none-some as_ e)
 targets_follow (Some i ∷ is) as_ e = targets_by is i (slot_targets is) as_ (targets_follow is) e
 
 unpack_follow : (vs : List ValueType) (p : Place) (front behind : List Note) (as_ : List Target) (u : Option Ty) (t : Typed) → Told front (ex_moves (tree_of t.expr))

@@ -1,6 +1,7 @@
 -- Augmented assignments are sound.
 use Rattle.std.proofs.Common.{◌≡◌, ℕ, Bool, true, false, List, [], ◌∷◌, Option, Some, None, refl, sym, ap, ◌∙◌, subst}
 use Rattle.std.specs.Prelude.{IsTrue, if◌then◌else◌, slice_get}
+use Rattle.std.proofs.lemmas.Option.{same_Some}
 use Rattle.puya_base.specs.declared.source.Place.{Place}
 use Rattle.puya_base.specs.declared.source.Rule.TheVariants as rule
 use Rattle.awst.specs.Sound.{Names, Within}
@@ -20,17 +21,16 @@ use Rattle.meaning_rules.specs.declared.scope.Scope.{Scope}
 use Rattle.meaning_rules.specs.declared.scope.Local.{Local}
 use Rattle.meaning_rules.specs.declared.scope.Status.{Status}
 use Rattle.meaning_rules.specs.declared.scope.Status.TheVariants as status
-use Rattle.meaning_rules.specs.Meanings.{a_node, a_typed, lit_type, lit_node, literal, kept, operand_of, freely, value_breaks}
+use Rattle.meaning_rules.specs.Meanings.{a_node, a_typed, literal, kept, operand_of, freely, value_breaks}
 use Rattle.meaning_rules.specs.Operations.{has_between, operation_at, read_status}
 use Rattle.expression_check.specs.Expressions.{judge}
 use Rattle.statement_check.specs.Statements.{agreed, augmented, augmented_by, augmented_when, augment_variable}
 use Rattle.typing_laws.proofs.Good.{value_type, GoodTyped, GoodLit, GoodOption, GoodOperand, GoodScope, Sees, SeenType}
 use Rattle.typing_laws.proofs.TypeLaws.{same_value}
-use Rattle.typing_laws.proofs.Meanings.{literal_good}
-use Rattle.typing_laws.proofs.Fixing.{none_some, some_same}
-use Rattle.typing_laws.proofs.Scalars.{is_update, FitsUpdate, update_fits}
+use Rattle.typing_laws.proofs.Meanings.{literal_good, literal_type}
+use Rattle.typing_laws.proofs.Updates.{is_update, FitsUpdate, update_fits}
 use Rattle.typing_laws.proofs.Anywhere.{anywhere, allows_all, operand_given}
-use Rattle.typing_laws.proofs.Placing.{SoundWhen, update_sound}
+use Rattle.typing_laws.proofs.StatementNodes.{SoundWhen, update_sound}
 
 -- ---- the variable that is read
 
@@ -46,7 +46,7 @@ kept_read names i p t false e h = rw e h
 read_fixed : (names : Names) (p : Place) (i : ℕ) (n : List ℕ) (t : Option SourceType) → SeenType names i t → IsReadOf names i (operand_of p (read_status p i (Some (record { name = n; status = status.Fixed t })))).operand
 read_fixed names p i n None s = tt
 read_fixed names p i n (Some u) s =
-    kept_read names i p (a_node p u (value_kind.Local i)) (is_nothing u) refl (s.at ∙ ap (λ (z : SourceType). Some (value_type z)) (some_same s.ty u (sym s.is)))
+    kept_read names i p (a_node p u (value_kind.Local i)) (is_nothing u) refl (s.at ∙ ap (λ (z : SourceType). Some (value_type z)) (same_Some s.ty u (sym s.is)))
 
 read_by : (names : Names) (p : Place) (i : ℕ) (n : List ℕ) (s : Status) → ((t : Option SourceType) → s ≡ status.Fixed t → SeenType names i t) → IsReadOf names i (operand_of p (read_status p i (Some (record { name = n; status = s })))).operand
 read_by names p i n status.Unseen f = tt
@@ -72,17 +72,13 @@ value_agrees : (names : Names) (p : Place) (o : Operator) (a u : Typed) (b : Boo
 value_agrees names p o a u true g = same_agrees names a.ty u (same_type a.ty u.ty) refl g
 value_agrees names p o a u false g = tt
 
-wanted_type : (t : SourceType) (q : Place) (l : Lit) (c : Bool) → same_type t (lit_type l) ≡ c → (u : Typed) → (if c then a_typed (lit_node q l) else value_breaks rule.P14 q).typed ≡ Some u → value_type u.ty ≡ value_type t
-wanted_type t q l true e u h = ap (λ (z : Typed). value_type z.ty) (sym (some_same (lit_node q l) u h)) ∙ sym (same_value t (lit_type l) e)
-wanted_type t q l false e u h = none_some u h
-
 option_agrees : (names : Names) (t : SourceType) (o : Option Typed) → GoodOption (anywhere names) o → ((u : Typed) → o ≡ Some u → value_type u.ty ≡ value_type t) → Agrees names t o
 option_agrees names t None g f = tt
 option_agrees names t (Some u) g f = (g.0, f u refl)
 
 literal_agrees : (names : Names) (p : Place) (t : SourceType) (q : Place) (l : Lit) (b : Bool) → GoodLit l → Agrees names t (if b then literal (hope.Wants t) q l else value_breaks rule.P14 p).typed
 literal_agrees names p t q l true g =
-    option_agrees names t (literal (hope.Wants t) q l).typed ((literal_good (anywhere names) (hope.Wants t) q l).holds g (allows_all (literal (hope.Wants t) q l).notes)) (wanted_type t q l (same_type t (lit_type l)) refl)
+    option_agrees names t (literal (hope.Wants t) q l).typed ((literal_good (anywhere names) (hope.Wants t) q l).holds g (allows_all (literal (hope.Wants t) q l).notes)) (literal_type t q l)
 literal_agrees names p t q l false g = tt
 
 agreed_agrees : (names : Names) (p : Place) (o : Operator) (a : Typed) (b : Operand) → GoodOperand (anywhere names) b → Agrees names a.ty (agreed p o a b).typed

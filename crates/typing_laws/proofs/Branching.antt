@@ -1,5 +1,6 @@
 -- The walks of an `if` are walks of the note on it.
 use Rattle.std.proofs.Common.{◌≡◌, ℕ, List, [], ◌∷◌, map, Option, Some, None, refl, sym, ◌∙◌, ap, subst}
+use Rattle.std.proofs.lemmas.Option.{none-some, same_Some}
 use Rattle.puya_base.specs.declared.source.Place.{Place}
 use Rattle.awst.specs.declared.expression.Expr.{Expr}
 use Rattle.awst.specs.declared.statement.Stmt.{Stmt}
@@ -24,7 +25,7 @@ use Rattle.typing_laws.proofs.Readings.{Told, told_follow}
 use Rattle.typing_laws.proofs.Moving.{joined-none}
 use Rattle.typing_laws.proofs.Looping.{IfFollows, rest_follow, arm_follow, choice_follow, before-before}
 use Rattle.typing_laws.proofs.Deeds.{moves_of, moves-stmt, true-always}
-use Rattle.typing_laws.proofs.Assigning.{AllFollow, DoneFollows, none_some, some_is, untyped_follow}
+use Rattle.typing_laws.proofs.Assigning.{AllFollow, DoneFollows, untyped_follow}
 
 abbrev arms_steps : Armed → Steps
 arms_steps r = before (in_turn (arms_of r.arms)) (steps_of r.rest)
@@ -38,7 +39,7 @@ ArmsFollow vs r = (p : Place) (as_ : List Arm) (ss : List Stmt) → r.typed_arms
 
 pub rest_arms : (vs : List ValueType) (d : Done) → DoneFollows vs d → ArmsFollow vs (rest_of d)
 rest_arms vs d f p as_ ss e k a =
-    subst (λ z. IfFollows (steps_of d.notes) (arms_moves p vs a z ss)) (some_is [] as_ e)
+    subst (λ z. IfFollows (steps_of d.notes) (arms_moves p vs a z ss)) (same_Some [] as_ e)
     (rest_follow (steps_of d.notes) (moves_of vs a ss) (f ss k a))
 
 -- an arm is its condition with its body
@@ -71,12 +72,12 @@ arm_by : (vs : List ValueType) (c : List Note) (o : Option Typed) (d : List Note
     → ((t : Typed) → o ≡ Some t → Told c (ex_moves (tree_of t.expr))) → ((body : List Stmt) → b ≡ Some body → Follows (steps_of d) (moves_of vs a body)) → ((bs : List Arm) → u ≡ Some bs → IfFollows (before (in_turn (arms_of more)) (steps_of rest)) (arms_moves p vs a bs ss))
     → arm_typed o b u ≡ Some as_
     → IfFollows (before (in_turn (arms_of ((record { test = c; always = is_true o; body = d }) ∷ more))) (steps_of rest)) (arms_moves p vs a as_ ss)
-arm_by vs c None d b rest more u p as_ ss a h f g e = absurd (none_some as_ e)
-arm_by vs c (Some t) d None rest more u p as_ ss a h f g e = absurd (none_some as_ e)
-arm_by vs c (Some t) d (Some body) rest more None p as_ ss a h f g e = absurd (none_some as_ e)
+arm_by vs c None d b rest more u p as_ ss a h f g e = absurd (none-some as_ e)
+arm_by vs c (Some t) d None rest more u p as_ ss a h f g e = absurd (none-some as_ e)
+arm_by vs c (Some t) d (Some body) rest more None p as_ ss a h f g e = absurd (none-some as_ e)
 arm_by vs c (Some t) d (Some body) rest more (Some bs) p as_ ss a h f g e =
     subst (λ z. IfFollows (before (in_turn (arms_of ((record { test = c; always = is_true (Some t); body = d }) ∷ more))) (steps_of rest)) (arms_moves p vs a z ss))
-    (some_is (roll-Arm (record { condition = t.expr; body = body }) ∷ bs) as_ e)
+    (same_Some (roll-Arm (record { condition = t.expr; body = body }) ∷ bs) as_ e)
     (one_arm vs c t d body (steps_of rest) more p bs ss a (h t refl) (f body refl) (g bs refl))
 
 pub arm_arms : (vs : List ValueType) (c : Valued) (d : Done) (r : Armed) → ((t : Typed) → c.typed ≡ Some t → Told c.notes (ex_moves (tree_of t.expr))) → DoneFollows vs d → ArmsFollow vs r → ArmsFollow vs (with_arm c d r)
@@ -96,7 +97,7 @@ if_by : (vs : List ValueType) (p : Place) (ns : List Note) (u : Option (List Arm
 if_by vs p ns None b h = untyped_follow vs ns
 if_by vs p ns (Some as_) None h = untyped_follow vs ns
 if_by vs p ns (Some as_) (Some ss) h = λ ts e a.
-    subst (λ z. Follows (steps_of ns) (moves_of vs a z)) (some_is (stmt p (kind.If as_ ss)) ts e)
+    subst (λ z. Follows (steps_of ns) (moves_of vs a z)) (same_Some (stmt p (kind.If as_ ss)) ts e)
     (subst (λ z. Follows (steps_of ns) z) (sym (moves-If vs a p as_ ss)) (h as_ ss refl refl a))
 
 pub if_follow : (vs : List ValueType) (p : Place) (r : Armed) → ArmsFollow vs r → DoneFollows vs (an_if p r)

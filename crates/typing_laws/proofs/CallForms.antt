@@ -1,5 +1,6 @@
--- Calls of functions, of the library's forms and of `log`.
-use Rattle.std.proofs.Common.{◌≡◌, ℕ, zero, suc, ◌≤◌, ◌∙◌, Bool, true, false, List, [], ◌∷◌, map, length, Option, Some, None, refl, sym, ap, subst, arith, eqb-true, leb-true}
+-- Calls of functions, of the library's forms and of `log` are good where their arguments are.
+use Rattle.std.proofs.Common.{◌≡◌, ℕ, suc, ◌≤◌, ◌∙◌, Bool, true, false, List, [], ◌∷◌, map, length, Option, Some, None, refl, sym, ap, subst, arith, eqb-true, leb-true}
+use Rattle.std.proofs.lemmas.List.Elements.{All-nil, All-cons}
 use Rattle.std.proofs.lemmas.Option.{none-some, same_Some}
 use Rattle.std.specs.Prelude.{◌==◌, nat_le, if◌then◌else◌, slice_get, IsTrue}
 use Rattle.std.specs.List.{All}
@@ -7,11 +8,10 @@ use Rattle.puya_base.specs.declared.source.Place.{Place}
 use Rattle.puya_base.specs.declared.source.Rule.TheVariants as rule
 use Rattle.awst.specs.declared.expression.Expr.{Expr}
 use Rattle.awst.specs.declared.expression.ExprKind.TheVariants as kind
-use Rattle.awst.specs.declared.expression.ExprKind.TheOpen.{ExprKind-F}
 use Rattle.awst.specs.declared.primitive.Primitive.TheVariants as prim
 use Rattle.awst.specs.Types.{ValueType}
 use Rattle.awst.specs.Shapes.{Fits, shape_of, is_logged, logs_all}
-use Rattle.awst.specs.Plain.{kind_layer, tree_of, trees_of}
+use Rattle.awst.specs.Plain.{trees_of}
 use Rattle.awst.specs.Sound.{types_in, IsCall}
 use Rattle.algopy_library.specs.declared.scalar.Scalar.{Scalar}
 use Rattle.algopy_library.specs.declared.scalar.Scalar.TheVariants as scalar
@@ -29,10 +29,11 @@ use Rattle.call_rules.specs.declared.arguments.Known.{Known}
 use Rattle.call_rules.specs.declared.arguments.Known.TheVariants.{Value as value_at, Literal as literal_at}
 use Rattle.call_rules.specs.Fittings.{number_of}
 use Rattle.call_rules.specs.Calls.{Fitted, fitted, result_when, with_fitted, counted, passes, fits_param, fits_parameter, param_test, called, call_function, admits_scalar, form_count, form_test, results_type, form_result, call_form, logged_when, log_test, call_log}
+use Rattle.source_names.specs.Equations.{plain-Nothing}
 use Rattle.typing_laws.proofs.Good.{World, Gives, Reading, GoodMeaning, GoodForm, Admitted, KnowsFunction, IsResultType, value_type}
 use Rattle.typing_laws.proofs.Giving.{reading_broken, gives_none, gives_broken, gives_reading, gives_then}
-use Rattle.typing_laws.proofs.TypeLaws.{same_value, scalar_value}
-use Rattle.typing_laws.proofs.CallTrees.{bare-Prim, bare-Call, plain_scalar, scalar_plain, plain_nothing, value_nothing, good_node}
+use Rattle.typing_laws.proofs.TypeLaws.{same_value, scalar_value_is, scalar_type, value_nothing}
+use Rattle.typing_laws.proofs.Nodes.{bare-Call, node_good, strict_good}
 use Rattle.typing_laws.proofs.CallParts.{GoodKnowns, Passed, Tells, fitted_passed, fitted_reading, fitted_order, known_types, passed_count, passed_parts}
 use Rattle.typing_laws.proofs.Ordering.{Fresh, Counting, fresh_order}
 
@@ -106,7 +107,7 @@ called_good w p n g ks es order (Some t) r d l f h = gives_none w _ _ (λ k.
       all_given = fresh_order (length knows.signature.params) ks (l ∙ sym knows.count) (subst (λ m. Fresh [] m ks) (sym knows.count) f);
       types = given_types knows.signature.params ks es given ∙ sym (ap (map Some) made.types);
     } in
-    good_node w p t (kind.Call n es order) (kind_layer (ExprKind-F.Call n (map tree_of es) order)) (bare-Call n es order)
+    node_good w p t _ _ (bare-Call n es order)
       (made.sound, subst (λ z. IsCall w.names n z (types_in (trees_of es)) (value_type t)) (sym d) is_call) made.reads (knows.result t r).1)
 
 pub function_good : (w : World) (p : Place) (n : ℕ) (g : Signature) (ks : List Known) → (length ks ≡ length g.params → Fresh [] (length g.params) ks)
@@ -147,15 +148,14 @@ form_good w p f ks c =
         let made = passed_parts w (Takes f) ks es given k.1 in
         let t = results_type f.results f.result in
         let fits = k.0.0 (known_types ks) (passed_count (Takes f) ks es given ∙ eqb-true (length ks) (form_count f) e) (all_admitted f 0 ks es given c) in
-        good_node w p t (kind.Prim f.prim es) (kind_layer (ExprKind-F.Prim f.prim (map tree_of es))) (bare-Prim f.prim es)
-          (made.sound, subst (λ z. Fits (shape_of f.prim) z (value_type t)) (sym made.types) fits) made.reads k.0.1)))
+        strict_good w p t f.prim es made.sound made.reads (subst (λ z. Fits (shape_of f.prim) z (value_type t)) (sym made.types) fits) k.0.1)))
 
 -- ---- `log`
 
 abbrev Logs : ℕ → Typed → Type 0
 Logs i t = logged_when (scalar_of t.ty) ≡ true
 
-logged_scalar : (s : Scalar) → library.is_logged s ≡ true → IsTrue (is_logged (plain_scalar s))
+logged_scalar : (s : Scalar) → library.is_logged s ≡ true → IsTrue (is_logged (scalar_type s))
 logged_scalar scalar.UInt64 h = refl
 logged_scalar scalar.Bool h = cc
 logged_scalar scalar.Bytes h = refl
@@ -164,19 +164,16 @@ logged_scalar scalar.Account h = refl
 
 logged_by : (t : SourceType) (o : Option Scalar) → scalar_of t ≡ o → logged_when o ≡ true → IsTrue (is_logged (value_type t))
 logged_by t None e h = cc
-logged_by t (Some s) e h = subst (λ z. IsTrue (is_logged z)) (sym (scalar_value t s e ∙ scalar_plain s)) (logged_scalar s h)
+logged_by t (Some s) e h = subst (λ z. IsTrue (is_logged z)) (sym (scalar_value_is t s e)) (logged_scalar s h)
 
 abbrev EachLogged : List ValueType → Type 0
 EachLogged ts = All (λ t. IsTrue (is_logged t)) ts
 
-logged_cons : (t : ValueType) (ts : List ValueType) → IsTrue (is_logged t) → EachLogged ts → EachLogged (t ∷ ts)
-logged_cons t ts h r zero d low = h
-logged_cons t ts h r (suc k) d low = r k d (omega (arith, low))
-
 all_logged : (ks : List Known) (es : List Expr) → Passed Logs ks es → EachLogged (map value_type (known_types ks))
-all_logged [] es h = λ k d low. absurd (omega (arith, low))
+all_logged [] es h = All-nil (λ t. IsTrue (is_logged t))
 all_logged (value_at i t ∷ ks) [] h = absurd h
-all_logged (value_at i t ∷ ks) (e ∷ es) h = logged_cons (value_type t.ty) (map value_type (known_types ks)) (logged_by t.ty (scalar_of t.ty) refl h.1) (all_logged ks es h.2)
+all_logged (value_at i t ∷ ks) (e ∷ es) h =
+    All-cons (λ t. IsTrue (is_logged t)) (value_type t.ty) (map value_type (known_types ks)) (logged_by t.ty (scalar_of t.ty) refl h.1) (all_logged ks es h.2)
 all_logged (literal_at i q l ∷ ks) es h = absurd h
 
 log_fits : (ks : List Known) (es : List Expr) → 1 ≤ length ks → Passed Logs ks es → Fits logs_all (map value_type (known_types ks)) (value_type ty.Nothing)
@@ -185,7 +182,7 @@ log_fits (value_at i t ∷ ks) es low h = (value_type t.ty, map value_type (know
 log_fits (literal_at i q l ∷ ks) es low h = absurd h
 
 pub nothing_result : IsResultType ty.Nothing
-nothing_result h = let e : is_nothing ty.Nothing ≡ true = ap nothing_in plain_nothing in cc
+nothing_result h = let e : is_nothing ty.Nothing ≡ true = ap nothing_in plain-Nothing in cc
 
 pub log_good : (w : World) (p : Place) (ks : List Known) → Gives w (GoodKnowns w ks) (call_log p ks).notes (GoodMeaning w (call_log p ks).meaning)
 log_good w p ks =
@@ -196,5 +193,5 @@ log_good w p ks =
       fitted_good w P p fit own (fitted_reading log_test (λ i t. passes_reading (logged_when (scalar_of t.ty)) t) ks) (λ es h. gives_none w P _ (λ k.
         let given = fitted_passed log_test Logs (λ i t u z. passes_tells (logged_when (scalar_of t.ty)) t u z) ks es h in
         let made = passed_parts w Logs ks es given k in
-        good_node w p ty.Nothing (kind.Prim prim.Log es) (kind_layer (ExprKind-F.Prim prim.Log (map tree_of es))) (bare-Prim prim.Log es)
-          (made.sound, subst (λ z. Fits logs_all z (value_type ty.Nothing)) (sym made.types) (log_fits ks es (leb-true 1 (length ks) e) given)) made.reads nothing_result)))
+        strict_good w p ty.Nothing prim.Log es made.sound made.reads
+          (subst (λ z. Fits logs_all z (value_type ty.Nothing)) (sym made.types) (log_fits ks es (leb-true 1 (length ks) e) given)) nothing_result)))

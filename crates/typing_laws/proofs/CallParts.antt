@@ -1,4 +1,4 @@
--- Arguments that fit, as the parts of a call.
+-- Arguments that fit are good parts of a call.
 use Rattle.std.proofs.Common.{◌≡◌, ℕ, suc, ◌∙◌, List, [], ◌∷◌, map, length, Option, Some, None, refl, sym, ap, subst}
 use Rattle.std.proofs.lemmas.Option.{none-some, same_Some}
 use Rattle.awst.specs.declared.expression.Expr.{Expr}

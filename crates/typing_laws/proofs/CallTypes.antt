@@ -1,63 +1,52 @@
--- Calls of types, of `from_hex` and of `urange`.
-use Rattle.std.proofs.Common.{◌≡◌, ℕ, zero, suc, ◌*◌, ◌+◌, ◌≤◌, inl, inr, ◌∙◌, Bool, true, false, List, [], ◌∷◌, ◌++◌, length, Option, Some, None, refl, sym, ap, subst, arith}
+-- Calls of types, of `from_hex` and of `urange` are good where their arguments are.
+use Rattle.std.proofs.Common.{◌≡◌, ℕ, zero, suc, ◌*◌, ◌+◌, ◌≤◌, ◌∙◌, Bool, true, false, List, [], ◌∷◌, ◌++◌, length, Option, Some, None, refl, ap, subst, arith}
 use Rattle.std.proofs.lemmas.Option.{none-some, same_Some}
 use Rattle.std.specs.Prelude.{if◌then◌else◌, IsTrue}
 use Rattle.puya_base.specs.declared.source.Place.{Place}
 use Rattle.puya_base.specs.declared.source.Rule.TheVariants as rule
 use Rattle.awst.specs.declared.expression.ExprKind.TheVariants as kind
-use Rattle.awst.specs.declared.expression.ExprKind.TheOpen.{ExprKind-F}
 use Rattle.awst.specs.declared.primitive.Primitive.{Primitive}
 use Rattle.awst.specs.declared.primitive.Primitive.TheVariants as prim
 use Rattle.awst.specs.Types.{uint64}
 use Rattle.awst.specs.Tree.{Ex}
 use Rattle.awst.specs.Shapes.{Fits, shape_of, has_truth}
-use Rattle.awst.specs.Plain.{kind_layer, tree_of}
+use Rattle.awst.specs.Plain.{tree_of}
 use Rattle.awst.specs.Sound.{ty_of}
 use Rattle.py_lexer.specs.Numbers.{digit_value}
 use Rattle.algopy_library.specs.declared.scalar.Scalar.{Scalar}
 use Rattle.algopy_library.specs.declared.scalar.Scalar.TheVariants as scalar
 use Rattle.algopy_library.specs.Operators as library
-use Rattle.source_names.specs.declared.types.SourceType.{SourceType}
 use Rattle.source_names.specs.declared.types.SourceType.TheVariants as ty
-use Rattle.source_names.specs.Types.{same_type, scalar_of}
+use Rattle.source_names.specs.Types.{scalar_of}
 use Rattle.meaning_rules.specs.declared.meaning.Typed.{Typed}
 use Rattle.meaning_rules.specs.declared.meaning.Lit.{Lit}
 use Rattle.meaning_rules.specs.declared.meaning.Lit.TheVariants as lit
 use Rattle.meaning_rules.specs.declared.meaning.Hope.TheVariants as hope
 use Rattle.meaning_rules.specs.declared.meaning.Meaning.TheVariants as meaning
-use Rattle.meaning_rules.specs.Meanings.{a_node, a_typed, value_breaks, says, breaks, literal, lit_node, lit_type, fits_type}
+use Rattle.meaning_rules.specs.Meanings.{a_node, says, breaks, literal, lit_node, fits_type}
 use Rattle.call_rules.specs.declared.arguments.Known.{Known}
 use Rattle.call_rules.specs.declared.arguments.Known.TheVariants.{Value as value_at, Literal as literal_at}
 use Rattle.call_rules.specs.Calls.{empty_of, same_lit, number_of_value, truth_when, of_value, of_known, call_type, with_pair, hex_bytes, hex_data, hex_literal, call_hex, bound, Stepped, no_step, step_number, step_literal, step_of, step_one, range_from, range_to, range_parts, call_range}
 use Rattle.typing_laws.proofs.Good.{World, Gives, GoodTyped, GoodLit, GoodMeaning, GoodOption, IsKeptType, Within, value_type}
 use Rattle.typing_laws.proofs.Giving.{gives_none, gives_broken, gives_both, gives_map}
-use Rattle.typing_laws.proofs.TypeLaws.{same_value, scalar_value, kept_scalar}
-use Rattle.typing_laws.proofs.Meanings.{literal_good, fits_good, fits_type_is}
-use Rattle.typing_laws.proofs.CallTrees.{bare-Int, bare-Data, bare-Prim, plain_scalar, scalar_plain, good_node}
+use Rattle.typing_laws.proofs.TypeLaws.{kept_scalar, scalar_value_is, scalar_type, scalar_is}
+use Rattle.typing_laws.proofs.Nodes as nodes
+use Rattle.typing_laws.proofs.Meanings.{literal_good, fits_good, fits_type_is, literal_type}
 use Rattle.typing_laws.proofs.CallParts.{GoodKnown, GoodKnowns}
 
 -- ---- literals, and values of one part
 
-pub number_node : (w : World) (p : Place) (n : ℕ) → GoodTyped w (a_node p (ty.Scalar scalar.UInt64) (kind.Int n))
-number_node w p n = good_node w p (ty.Scalar scalar.UInt64) (kind.Int n) (kind_layer (ExprKind-F.Int n)) (bare-Int n) (scalar_plain scalar.UInt64) tt (λ h. kept_scalar scalar.UInt64)
-
-pub bytes_node : (w : World) (p : Place) (b : List ℕ) → length b ≤ 4096 → GoodTyped w (a_node p (ty.Scalar scalar.Bytes) (kind.Data b))
-bytes_node w p b low = good_node w p (ty.Scalar scalar.Bytes) (kind.Data b) (kind_layer (ExprKind-F.Data b)) (bare-Data b) (inl (scalar_plain scalar.Bytes), low) tt (λ h. kept_scalar scalar.Bytes)
-
-pub text_node : (w : World) (p : Place) (b : List ℕ) → length b ≤ 4096 → GoodTyped w (a_node p (ty.Scalar scalar.Text) (kind.Data b))
-text_node w p b low = good_node w p (ty.Scalar scalar.Text) (kind.Data b) (kind_layer (ExprKind-F.Data b)) (bare-Data b) (inr (scalar_plain scalar.Text), low) tt (λ h. kept_scalar scalar.Text)
-
 literal_node : (w : World) (p : Place) (l : Lit) → GoodLit l → GoodTyped w (lit_node p l)
-literal_node w p (lit.Number n) h = number_node w p n
-literal_node w p (lit.Text b) h = text_node w p b h
-literal_node w p (lit.Bytes b) h = bytes_node w p b h
+literal_node w p (lit.Number n) h = nodes.number_good w p n
+literal_node w p (lit.Text b) h = nodes.text_good w p b h
+literal_node w p (lit.Bytes b) h = nodes.bytes_good w p b h
 
 one_part : (w : World) (p : Place) (s : Scalar) (q : Primitive) (t : Typed) → GoodTyped w t → Fits (shape_of q) (ty_of (tree_of t.expr) ∷ []) (value_type (ty.Scalar s)) → GoodTyped w (a_node p (ty.Scalar s) (kind.Prim q (t.expr ∷ [])))
 one_part w p s q t g f =
-    good_node w p (ty.Scalar s) (kind.Prim q (t.expr ∷ [])) (kind_layer (ExprKind-F.Prim q (tree_of t.expr ∷ []))) (bare-Prim q (t.expr ∷ [])) ((g.sound, tt), f) (g.reads, tt) (λ h. kept_scalar s)
+    nodes.strict_good w p (ty.Scalar s) q (t.expr ∷ []) (g.sound, tt) (g.reads, tt) f (λ h. kept_scalar s)
 
-tree_type : (w : World) (t : Typed) (s : Scalar) → GoodTyped w t → scalar_of t.ty ≡ Some s → ty_of (tree_of t.expr) ≡ plain_scalar s
-tree_type w t s g e = g.type_is ∙ (scalar_value t.ty s e ∙ scalar_plain s)
+tree_type : (w : World) (t : Typed) (s : Scalar) → GoodTyped w t → scalar_of t.ty ≡ Some s → ty_of (tree_of t.expr) ≡ scalar_type s
+tree_type w t s g e = g.type_is ∙ (scalar_value_is t.ty s e)
 
 -- ---- types
 
@@ -65,9 +54,9 @@ breaks_at : (w : World) (P : Type 0) (p : Place) → Gives w P (breaks rule.P14 
 breaks_at w P p = gives_broken w P (Unit {0}) rule.P14 p (λ t. tt)
 
 empty_good : (w : World) (P : Type 0) (p : Place) (s : Scalar) → Gives w P (empty_of p s).notes (GoodMeaning w (empty_of p s).meaning)
-empty_good w P p scalar.UInt64 = gives_none w P _ (λ t. number_node w p 0)
-empty_good w P p scalar.Bytes = gives_none w P _ (λ t. bytes_node w p [] (omega arith))
-empty_good w P p scalar.Text = gives_none w P _ (λ t. text_node w p [] (omega arith))
+empty_good w P p scalar.UInt64 = gives_none w P _ (λ t. nodes.number_good w p 0)
+empty_good w P p scalar.Bytes = gives_none w P _ (λ t. nodes.bytes_good w p [] (omega arith))
+empty_good w P p scalar.Text = gives_none w P _ (λ t. nodes.text_good w p [] (omega arith))
 empty_good w P p scalar.Bool = gives_broken w P (Unit {0}) rule.P15 p (λ t. tt)
 empty_good w P p scalar.Account = gives_broken w P (Unit {0}) rule.P15 p (λ t. tt)
 
@@ -76,14 +65,14 @@ of_literal_by w p q l true = gives_none w (GoodLit l) _ (literal_node w p l)
 of_literal_by w p q l false = breaks_at w (GoodLit l) q
 
 number_good : (w : World) (p : Place) (t : Typed) (o : Option Scalar) → scalar_of t.ty ≡ o → Gives w (GoodTyped w t × IsKeptType t.ty) (number_of_value p t o).notes (GoodMeaning w (number_of_value p t o).meaning)
-number_good w p t (Some scalar.Bool) e = gives_none w _ _ (λ h. one_part w p scalar.UInt64 prim.NumberOfBool t h.0 (ap (λ z. z ∷ []) (tree_type w t scalar.Bool h.0 e), scalar_plain scalar.UInt64))
+number_good w p t (Some scalar.Bool) e = gives_none w _ _ (λ h. one_part w p scalar.UInt64 prim.NumberOfBool t h.0 (ap (λ z. z ∷ []) (tree_type w t scalar.Bool h.0 e), scalar_is scalar.UInt64))
 number_good w p t (Some scalar.UInt64) e = breaks_at w _ t.expr.place
 number_good w p t (Some scalar.Bytes) e = breaks_at w _ t.expr.place
 number_good w p t (Some scalar.Text) e = breaks_at w _ t.expr.place
 number_good w p t (Some scalar.Account) e = breaks_at w _ t.expr.place
 number_good w p t None e = breaks_at w _ t.expr.place
 
-truth_scalar : (s : Scalar) → library.has_truth s ≡ true → IsTrue (has_truth (plain_scalar s))
+truth_scalar : (s : Scalar) → library.has_truth s ≡ true → IsTrue (has_truth (scalar_type s))
 truth_scalar scalar.UInt64 h = refl
 truth_scalar scalar.Bool h = refl
 truth_scalar scalar.Bytes h = refl
@@ -92,7 +81,7 @@ truth_scalar scalar.Account h = cc
 
 truth_good_by : (w : World) (p : Place) (t : Typed) (s : Scalar) (b : Bool) → scalar_of t.ty ≡ Some s → library.has_truth s ≡ b
     → let j = if b then says (meaning.Value (a_node p (ty.Scalar scalar.Bool) (kind.Prim prim.Truth (t.expr ∷ [])))) else breaks rule.P14 t.expr.place in Gives w (GoodTyped w t × IsKeptType t.ty) j.notes (GoodMeaning w j.meaning)
-truth_good_by w p t s true e h = gives_none w _ _ (λ k. one_part w p scalar.Bool prim.Truth t k.0 (plain_scalar s, ap (λ z. z ∷ []) (tree_type w t s k.0 e), truth_scalar s h, scalar_plain scalar.Bool))
+truth_good_by w p t s true e h = gives_none w _ _ (λ k. one_part w p scalar.Bool prim.Truth t k.0 (scalar_type s, ap (λ z. z ∷ []) (tree_type w t s k.0 e), truth_scalar s h, scalar_is scalar.Bool))
 truth_good_by w p t s false e h = breaks_at w _ t.expr.place
 
 truth_good : (w : World) (p : Place) (t : Typed) (o : Option Scalar) → scalar_of t.ty ≡ o → Gives w (GoodTyped w t × IsKeptType t.ty) (truth_when p t o).notes (GoodMeaning w (truth_when p t o).meaning)
@@ -133,7 +122,7 @@ hex_short (h ∷ l ∷ ds) bs e = pair_short (digit_value h) (digit_value l) (he
 
 hex_data_good : (w : World) (p q : Place) (b : List ℕ) (o : Option (List ℕ)) → hex_bytes b ≡ o → Gives w (length b ≤ 4096) (hex_data p q o).notes (GoodMeaning w (hex_data p q o).meaning)
 hex_data_good w p q b None e = breaks_at w _ q
-hex_data_good w p q b (Some bs) e = gives_none w _ _ (λ h. bytes_node w p bs (let low = hex_short b bs e in omega (arith, low, h)))
+hex_data_good w p q b (Some bs) e = gives_none w _ _ (λ h. nodes.bytes_good w p bs (let low = hex_short b bs e in omega (arith, low, h)))
 
 hex_literal_good : (w : World) (p q : Place) (l : Lit) → Gives w (GoodLit l) (hex_literal p q l).notes (GoodMeaning w (hex_literal p q l).meaning)
 hex_literal_good w p q (lit.Text b) = hex_data_good w p q b (hex_bytes b) refl
@@ -159,11 +148,7 @@ GoodStep (Some n) = 1 ≤ n
 
 number_when : (w : World) (o : Option Typed) → ((u : Typed) → o ≡ Some u → value_type u.ty ≡ value_type (ty.Scalar scalar.UInt64)) → GoodOption w o → GoodNumber w o
 number_when w None h g = tt
-number_when w (Some t) h g = (g.0, g.0.type_is ∙ (h t refl ∙ scalar_plain scalar.UInt64))
-
-literal_type_by : (t : SourceType) (q : Place) (l : Lit) (b : Bool) (u : Typed) → same_type t (lit_type l) ≡ b → (if b then a_typed (lit_node q l) else value_breaks rule.P14 q).typed ≡ Some u → value_type u.ty ≡ value_type t
-literal_type_by t q l true u e h = ap (λ (v : Typed). value_type v.ty) (sym (same_Some (lit_node q l) u h)) ∙ sym (same_value t (lit_type l) e)
-literal_type_by t q l false u e h = absurd (none-some u h)
+number_when w (Some t) h g = (g.0, g.0.type_is ∙ (h t refl ∙ scalar_is scalar.UInt64))
 
 bound_good : (w : World) (k : Known) → Gives w (GoodKnown w k) (bound k).notes (GoodNumber w (bound k).typed)
 bound_good w (value_at i t) =
@@ -172,7 +157,7 @@ bound_good w (value_at i t) =
 bound_good w (literal_at i q l) =
     let n = ty.Scalar scalar.UInt64 in
     let v = literal (hope.Wants n) q l in
-    gives_map w (GoodLit l) (GoodOption w v.typed) (GoodLit l) (GoodNumber w v.typed) v.notes (λ h. h) (number_when w v.typed (λ u. literal_type_by n q l (same_type n (lit_type l)) u refl)) (literal_good w (hope.Wants n) q l)
+    gives_map w (GoodLit l) (GoodOption w v.typed) (GoodLit l) (GoodNumber w v.typed) v.notes (λ h. h) (number_when w v.typed (literal_type n q l)) (literal_good w (hope.Wants n) q l)
 
 no_step_good : (w : World) (P : Type 0) (p : Place) → Gives w P (no_step p).notes (GoodStep (no_step p).step)
 no_step_good w P p = gives_broken w P (Unit {0}) rule.P15 p (λ t. tt)

@@ -22,7 +22,7 @@ use Rattle.typing_laws.proofs.Growing.{settled_before, check_later, checks_later
 use Rattle.typing_laws.proofs.Keeping.{check_keeps, checks_keep, over_keeps}
 use Rattle.typing_laws.proofs.Anywhere.{anywhere, names_at, scope_at, meaning_given, operand_given, condition_given}
 use Rattle.typing_laws.proofs.Quieting.{quiet_front, quiet_behind, quiet_loop, quiet_tail, QuietIf, quiet_if, quiet_rest, quiet_arms, quiet_arm}
-use Rattle.typing_laws.proofs.Placing.{SoundWhen, none_sound}
+use Rattle.typing_laws.proofs.StatementNodes.{SoundWhen, none_sound}
 use Rattle.typing_laws.proofs.Taking.{local_exists}
 use Rattle.typing_laws.proofs.Simple.{line_sound}
 use Rattle.typing_laws.proofs.Compound.{behind_sound, ArmsWhen, rest_when, arm_when, if_when, while_when, OverFits, over_fits, for_when}

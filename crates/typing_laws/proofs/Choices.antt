@@ -11,7 +11,7 @@ use Rattle.meaning_rules.specs.declared.meaning.Typed.{Typed}
 use Rattle.meaning_rules.specs.declared.operand.Operand.{Operand}
 use Rattle.meaning_rules.specs.declared.operand.Operand.TheVariants.{Value as a_value, Literal as a_literal, Missing as missing}
 use Rattle.meaning_rules.specs.Meanings.{Judged, Valued, breaks, node, literal, operand_of, condition}
-use Rattle.meaning_rules.specs.Operations.{Parts, chosen_when, chosen, choose_two, beside, choose_literal, choose_first, choose_literals, choose_values, judge_choose, both, and_part, types_in, exprs_in, tuple_when, judge_tuple}
+use Rattle.meaning_rules.specs.Operations.{Parts, chosen_when, chosen, choose_two, beside, choose_literal, choose_first, choose_literals, choose_values, judge_choose, both, no_parts, and_part, types_in, exprs_in, tuple_when, judge_tuple}
 use Rattle.typing_laws.proofs.Good.{World, Always, value_type, GoodLit, GoodTypedsWhen, GoodOption, GoodOperand, GoodCondition, GoodJudged, GoodValued, GoodParts}
 use Rattle.typing_laws.proofs.Giving.{gives_none, gives_broken, gives_then, gives_pair, gives_both, gives_map}
 use Rattle.typing_laws.proofs.TypeLaws.{same_value}
@@ -83,6 +83,9 @@ both_good : (w : World) (t : Option Typed) (ts : Option (List Typed)) → GoodOp
 both_good w (Some t) (Some ts) g = g
 both_good w (Some t) None g = tt
 both_good w None ts g = tt
+
+pub no_parts_good : (w : World) → GoodParts w no_parts
+no_parts_good w = gives_none w _ _ (λ g. tt)
 
 pub part_is_good : (w : World) (v : Valued) (r : Parts) → GoodValued w Always v → GoodParts w r → GoodParts w (and_part v r)
 part_is_good w v r g h = gives_map w Always (GoodOption w v.typed × GoodTypedsWhen w r.typed) _ _ _ (λ t. t) (both_good w v.typed r.typed) (gives_pair w _ _ _ v.notes r.notes g h)

@@ -25,10 +25,9 @@ use Rattle.meaning_rules.specs.Meanings.{Judged, broken, operand_of}
 use Rattle.expression_check.specs.Variables.{fixed, status_at}
 use Rattle.statement_check.specs.Statements.{Done, done, stmt, behind_done, arm_typed, if_typed, while_typed, differs, turn_differs, for_typed, over_scalar, over_operand, over}
 use Rattle.typing_laws.proofs.Good.{value_type, GoodTyped, GoodCondition, GoodMeaning, GoodOperand, Settled}
-use Rattle.typing_laws.proofs.TypeLaws.{same_value}
-use Rattle.typing_laws.proofs.Scalars.{value_scalar, scalar_is}
+use Rattle.typing_laws.proofs.TypeLaws.{scalar_is, scalar_value_is, same_value}
 use Rattle.typing_laws.proofs.Anywhere.{anywhere}
-use Rattle.typing_laws.proofs.Placing.{AreSoundTyped, SoundWhen, both_sound, while_sound, range_sound, each_sound, SoundArms, no_arms_sound, arm_sound, if_sound}
+use Rattle.typing_laws.proofs.StatementNodes.{AreSoundTyped, SoundWhen, both_sound, while_sound, range_sound, each_sound, SoundArms, no_arms_sound, arm_sound, if_sound}
 use Rattle.typing_laws.proofs.Taking.{Exists, type_fixed}
 
 -- ---- one behind another
@@ -83,7 +82,7 @@ scalar_fits names t None e g = tt
 scalar_fits names t (Some scalar.UInt64) e g = tt
 scalar_fits names t (Some scalar.Bool) e g = tt
 scalar_fits names t (Some scalar.Bytes) e g =
-    (ty.Scalar scalar.Bytes, refl, λ within p i b h k. each_sound names within p i t.expr b (h ∙ ap Some (value_scalar scalar.Bytes)) (g.sound, g.type_is ∙ scalar_is t.ty scalar.Bytes e) k)
+    (ty.Scalar scalar.Bytes, refl, λ within p i b h k. each_sound names within p i t.expr b (h ∙ ap Some (scalar_is scalar.Bytes)) (g.sound, g.type_is ∙ scalar_value_is t.ty scalar.Bytes e) k)
 scalar_fits names t (Some scalar.Text) e g = tt
 scalar_fits names t (Some scalar.Account) e g = tt
 
@@ -95,7 +94,7 @@ operand_fits names missing g = tt
 over_by : (names : Names) (p : Place) (ns : List Note) (m : Meaning) → GoodMeaning (anywhere names) m → GoodOperand (anywhere names) (operand_of p (record { notes = ns; meaning = m })).operand
     → OverFits names (over p (record { notes = ns; meaning = m })).ty (over p (record { notes = ns; meaning = m })).over
 over_by names p ns (meaning.Range r) g o =
-    (ty.Scalar scalar.UInt64, refl, λ within q i b h k. range_sound names within q i r.start r.stop r.step b (h ∙ ap Some (value_scalar scalar.UInt64)) g.start g.stop g.step k)
+    (ty.Scalar scalar.UInt64, refl, λ within q i b h k. range_sound names within q i r.start r.stop r.step b (h ∙ ap Some (scalar_is scalar.UInt64)) g.start g.stop g.step k)
 over_by names p ns (meaning.Value t) g o = operand_fits names (operand_of p (record { notes = ns; meaning = meaning.Value t })).operand o
 over_by names p ns (meaning.Literal q l) g o = operand_fits names (operand_of p (record { notes = ns; meaning = meaning.Literal q l })).operand o
 over_by names p ns (meaning.Thing t) g o = operand_fits names (operand_of p (record { notes = ns; meaning = meaning.Thing t })).operand o

@@ -22,11 +22,12 @@ use Rattle.source_headers.specs.Headers.{signature, twice}
 use Rattle.source_headers.specs.Modules.{entries, signatures, names_faults}
 use Rattle.source_headers.specs.Classes.{Base, a_contract, another, unknown, base_of, functions, class_signatures, classes, base_faults, class_faults, all_class_faults, no_contract, first_from, is_approval, is_clear, is_program, wrong_result, missing, missing_programs, member_names, all_member_faults, contract_faults}
 use Rattle.type_check.specs.Whole.{Placed, module_functions, class_scope, placed_in_module, placed_in_class, is_contract, contracts, class_functions, all_functions, placed_faults, listed_faults, IsBrokenIn, listed, on_paths, typed_functions, beyond, contract_of, typed_contract, both_contracts, typed_contracts, typed, Checks, answers}
+use Rattle.typing_laws.proofs.Truths.{never}
 use Rattle.typing_laws.proofs.Good.{KnowsFunction, KnowsFunctions}
 use Rattle.typing_laws.proofs.Entries.{entries_good, constants_good}
 use Rattle.typing_laws.proofs.Functions.{typing, function_known}
 use Rattle.typing_laws.proofs.Headers.{signature_good}
-use Rattle.typing_laws.proofs.Placings.{EachOf, each_of_append, each_of_front, each_of_behind, each_of_from, function_at, headers, headers_known, HasGoodHeader, IsQuiet, SeesGood, functions_sound}
+use Rattle.typing_laws.proofs.PlacedFunctions.{EachOf, each_of_append, each_of_front, each_of_behind, each_of_from, function_at, headers, headers_known, HasGoodHeader, IsQuiet, SeesGood, functions_sound}
 use Rattle.typing_laws.proofs.Mains.{Found, front_none, behind_none, main_there, main_good, truth_type}
 
 -- ---- places in two lists
@@ -173,9 +174,6 @@ contract_made is c fs =
     let n = length (module_functions is) in
     record { name = c.name.name; arc4 = false; funcs = fs; approval = beyond n (first_from 0 is_approval (functions c.members)); clear = beyond n (first_from 0 is_clear (functions c.members)); init = None }
 
-not_true : false ≡ true → ⊥
-not_true h = cc
-
 is_there : (n i : ℕ) (o : Option ℕ) → o ≡ Some i → beyond n o ≡ None → false ≡ true
 is_there n i o e h = absurd (none-some (n + i) (sym h ∙ ap (beyond n) e))
 
@@ -189,7 +187,7 @@ contract_as is c q k fs h d e =
     let second = main_there c.name.place is_clear (functions c.members) (behind_none (missing c.name.place approval) (missing c.name.place clear) programs) in
     subst IsSoundContract (same_Some (contract_made is c fs) d e) (record {
       functions = functions_sound (map signature_of fs) (together is c) fs h (together_good is c) (together_sees is c fs h) q;
-      kind = (λ b. absurd (not_true b), λ b. is_there (length (module_functions is)) (0 + first.number) approval first.is b);
+      kind = (λ b. never b, λ b. is_there (length (module_functions is)) (0 + first.number) approval first.is b);
       approval = main_at is c fs h k is_approval approval_program approval first;
       clear = main_at is c fs h k is_clear clear_program clear second;
       init = tt;

@@ -1,6 +1,7 @@
 -- What is fixed of a variable: a variable that has no type yet gets one, and nothing else changes.
 use Rattle.std.proofs.Common.{◌≡◌, ℕ, zero, suc, List, [], ◌∷◌, ◌⊎◌, inl, inr, Option, Some, None, length-set, refl, sym, ap, ◌∙◌, subst}
 use Rattle.std.specs.Prelude.{slice_get, slice_set}
+use Rattle.std.proofs.lemmas.Option.{none-some, same_Some}
 use Rattle.source_names.specs.declared.types.SourceType.{SourceType}
 use Rattle.meaning_rules.specs.declared.scope.Local.{Local}
 use Rattle.meaning_rules.specs.declared.scope.Status.{Status}
@@ -13,27 +14,21 @@ use Rattle.typing_laws.proofs.Good.{IsKeptType, KeptLocals, Later, Stays}
 abbrev pub now_fixed : Local → Option SourceType → Local
 now_fixed l t = record { name = l.name; status = status.Fixed t }
 
-pub none_some : {A B : Type 0} (x : A) → ◌≡◌ {A = Option A} None (Some x) → B
-none_some x e = absurd (cc)
-
-pub some_same : {A : Type 0} (x y : A) → ◌≡◌ {A = Option A} (Some x) (Some y) → x ≡ y
-some_same x y e = cc
-
 pub set_at : (ls : List Local) (i : ℕ) (x l : Local) → slice_get ls i ≡ Some l → slice_get (slice_set ls i x) i ≡ Some x
-set_at [] i x l h = none_some l h
+set_at [] i x l h = absurd (none-some l h)
 set_at (y ∷ ys) zero x l h = refl
 set_at (y ∷ ys) (suc i) x l h = set_at ys i x l h
 
 set_other : (ls : List Local) (i j : ℕ) (x l k : Local) → slice_get ls i ≡ Some l → slice_get ls j ≡ Some k → (l ≡ k → ⊥) → slice_get (slice_set ls i x) j ≡ Some k
-set_other [] i j x l k a b n = none_some l a
-set_other (y ∷ ys) zero zero x l k a b n = absurd (n (some_same l k (sym a ∙ b)))
+set_other [] i j x l k a b n = absurd (none-some l a)
+set_other (y ∷ ys) zero zero x l k a b n = absurd (n (same_Some l k (sym a ∙ b)))
 set_other (y ∷ ys) zero (suc j) x l k a b n = b
 set_other (y ∷ ys) (suc i) zero x l k a b n = b
 set_other (y ∷ ys) (suc i) (suc j) x l k a b n = set_other ys i j x l k a b n
 
 set_cases : (ls : List Local) (i j : ℕ) (x k : Local) → slice_get (slice_set ls i x) j ≡ Some k → (x ≡ k) ⊎ (slice_get ls j ≡ Some k)
-set_cases [] i j x k h = none_some k h
-set_cases (y ∷ ys) zero zero x k h = inl (some_same x k h)
+set_cases [] i j x k h = absurd (none-some k h)
+set_cases (y ∷ ys) zero zero x k h = inl (same_Some x k h)
 set_cases (y ∷ ys) zero (suc j) x k h = inr h
 set_cases (y ∷ ys) (suc i) zero x k h = inr h
 set_cases (y ∷ ys) (suc i) (suc j) x k h = set_cases ys i j x k h
@@ -77,10 +72,10 @@ abbrev pub KeptOption : Option SourceType → Type 0
 KeptOption t = (u : SourceType) → t ≡ Some u → IsKeptType u
 
 pub kept_none : KeptOption None
-kept_none u e = none_some u e
+kept_none u e = absurd (none-some u e)
 
 pub kept_some : (t : SourceType) → IsKeptType t → KeptOption (Some t)
-kept_some t k u e = subst (λ (z : SourceType). IsKeptType z) (some_same t u e) k
+kept_some t k u e = subst (λ (z : SourceType). IsKeptType z) (same_Some t u e) k
 
 status_type : Status → Option SourceType
 status_type status.Unseen = None

@@ -15,13 +15,12 @@ use Rattle.source_names.specs.declared.types.SourceType.TheVariants as ty
 use Rattle.source_names.specs.Types.{scalar_of}
 use Rattle.call_rules.specs.Calls.{admits_scalar, results_type}
 use Rattle.typing_laws.proofs.Good.{Admitted, GoodMember, value_type}
-use Rattle.typing_laws.proofs.TypeLaws.{scalar_value, tuple_value, kept_scalar, kept_tuple}
-use Rattle.typing_laws.proofs.CallTrees.{plain_scalar, scalar_plain}
+use Rattle.typing_laws.proofs.TypeLaws.{tuple_value, kept_scalar, kept_tuple, scalar_value_is, scalar_type, scalar_is}
 
 -- ---- what is admitted
 
 number_at : (t : SourceType) (o : Option Scalar) → scalar_of t ≡ o → admits_scalar admits.Number o ≡ true → value_type t ≡ uint64
-number_at t (Some scalar.UInt64) e h = scalar_value t scalar.UInt64 e ∙ scalar_plain scalar.UInt64
+number_at t (Some scalar.UInt64) e h = scalar_value_is t scalar.UInt64 e
 number_at t (Some scalar.Bool) e h = cc
 number_at t (Some scalar.Bytes) e h = cc
 number_at t (Some scalar.Text) e h = cc
@@ -34,7 +33,7 @@ a_number t h = number_at t (scalar_of t) refl h
 bytes_at : (t : SourceType) (o : Option Scalar) → scalar_of t ≡ o → admits_scalar admits.Bytes o ≡ true → value_type t ≡ bytes
 bytes_at t (Some scalar.UInt64) e h = cc
 bytes_at t (Some scalar.Bool) e h = cc
-bytes_at t (Some scalar.Bytes) e h = scalar_value t scalar.Bytes e ∙ scalar_plain scalar.Bytes
+bytes_at t (Some scalar.Bytes) e h = scalar_value_is t scalar.Bytes e
 bytes_at t (Some scalar.Text) e h = cc
 bytes_at t (Some scalar.Account) e h = cc
 bytes_at t None e h = cc
@@ -43,9 +42,9 @@ some_bytes : (t : SourceType) → admits_scalar admits.Bytes (scalar_of t) ≡ t
 some_bytes t h = bytes_at t (scalar_of t) refl h
 
 either_at : (t : SourceType) (o : Option Scalar) → scalar_of t ≡ o → admits_scalar admits.Either o ≡ true → IsTrue (is_measured (value_type t))
-either_at t (Some scalar.UInt64) e h = ap is_measured (scalar_value t scalar.UInt64 e ∙ scalar_plain scalar.UInt64)
+either_at t (Some scalar.UInt64) e h = ap is_measured (scalar_value_is t scalar.UInt64 e)
 either_at t (Some scalar.Bool) e h = cc
-either_at t (Some scalar.Bytes) e h = ap is_measured (scalar_value t scalar.Bytes e ∙ scalar_plain scalar.Bytes)
+either_at t (Some scalar.Bytes) e h = ap is_measured (scalar_value_is t scalar.Bytes e)
 either_at t (Some scalar.Text) e h = cc
 either_at t (Some scalar.Account) e h = cc
 either_at t None e h = cc
@@ -84,83 +83,83 @@ same_more a b as_ bs h k = ap (λ z. z ∷ as_) h ∙ ap (λ z. b ∷ z) k
 
 -- ---- one scalar as the result
 
-pub of_number : (p : Primitive) (s : Scalar) → shape_of p ≡ takes (uint64 ∷ []) (plain_scalar s) → GoodMember (member.Form (form_of p admits.Number admits.Nothing admits.Nothing admits.Nothing 1 s))
+pub of_number : (p : Primitive) (s : Scalar) → shape_of p ≡ takes (uint64 ∷ []) (scalar_type s) → GoodMember (member.Form (form_of p admits.Number admits.Nothing admits.Nothing admits.Nothing 1 s))
 of_number p s e = (
   one_type (Given (form_of p admits.Number admits.Nothing admits.Nothing admits.Nothing 1 s) (value_type (ty.Scalar s)))
-    (λ t a. rw e (same_one (value_type t) uint64 (a_number t a.0), scalar_plain s)),
+    (λ t a. rw e (same_one (value_type t) uint64 (a_number t a.0), scalar_is s)),
   λ h. kept_scalar s,
 )
 
-pub of_bytes : (p : Primitive) (s : Scalar) → shape_of p ≡ takes (bytes ∷ []) (plain_scalar s) → GoodMember (member.Form (form_of p admits.Bytes admits.Nothing admits.Nothing admits.Nothing 1 s))
+pub of_bytes : (p : Primitive) (s : Scalar) → shape_of p ≡ takes (bytes ∷ []) (scalar_type s) → GoodMember (member.Form (form_of p admits.Bytes admits.Nothing admits.Nothing admits.Nothing 1 s))
 of_bytes p s e = (
   one_type (Given (form_of p admits.Bytes admits.Nothing admits.Nothing admits.Nothing 1 s) (value_type (ty.Scalar s)))
-    (λ t a. rw e (same_one (value_type t) bytes (some_bytes t a.0), scalar_plain s)),
+    (λ t a. rw e (same_one (value_type t) bytes (some_bytes t a.0), scalar_is s)),
   λ h. kept_scalar s,
 )
 
-pub of_numbers : (p : Primitive) (s : Scalar) → shape_of p ≡ takes (uint64 ∷ uint64 ∷ []) (plain_scalar s) → GoodMember (member.Form (form_of p admits.Number admits.Number admits.Nothing admits.Nothing 1 s))
+pub of_numbers : (p : Primitive) (s : Scalar) → shape_of p ≡ takes (uint64 ∷ uint64 ∷ []) (scalar_type s) → GoodMember (member.Form (form_of p admits.Number admits.Number admits.Nothing admits.Nothing 1 s))
 of_numbers p s e = (
   two_types (Given (form_of p admits.Number admits.Number admits.Nothing admits.Nothing 1 s) (value_type (ty.Scalar s)))
-    (λ t u a. rw e (same_more (value_type t) uint64 (value_type u ∷ []) (uint64 ∷ []) (a_number t a.0) (same_one (value_type u) uint64 (a_number u a.1.0)), scalar_plain s)),
+    (λ t u a. rw e (same_more (value_type t) uint64 (value_type u ∷ []) (uint64 ∷ []) (a_number t a.0) (same_one (value_type u) uint64 (a_number u a.1.0)), scalar_is s)),
   λ h. kept_scalar s,
 )
 
-pub of_place : (p : Primitive) (s : Scalar) → shape_of p ≡ takes (bytes ∷ uint64 ∷ []) (plain_scalar s) → GoodMember (member.Form (form_of p admits.Bytes admits.Number admits.Nothing admits.Nothing 1 s))
+pub of_place : (p : Primitive) (s : Scalar) → shape_of p ≡ takes (bytes ∷ uint64 ∷ []) (scalar_type s) → GoodMember (member.Form (form_of p admits.Bytes admits.Number admits.Nothing admits.Nothing 1 s))
 of_place p s e = (
   two_types (Given (form_of p admits.Bytes admits.Number admits.Nothing admits.Nothing 1 s) (value_type (ty.Scalar s)))
-    (λ t u a. rw e (same_more (value_type t) bytes (value_type u ∷ []) (uint64 ∷ []) (some_bytes t a.0) (same_one (value_type u) uint64 (a_number u a.1.0)), scalar_plain s)),
+    (λ t u a. rw e (same_more (value_type t) bytes (value_type u ∷ []) (uint64 ∷ []) (some_bytes t a.0) (same_one (value_type u) uint64 (a_number u a.1.0)), scalar_is s)),
   λ h. kept_scalar s,
 )
 
-pub of_two_bytes : (p : Primitive) (s : Scalar) → shape_of p ≡ takes (bytes ∷ bytes ∷ []) (plain_scalar s) → GoodMember (member.Form (form_of p admits.Bytes admits.Bytes admits.Nothing admits.Nothing 1 s))
+pub of_two_bytes : (p : Primitive) (s : Scalar) → shape_of p ≡ takes (bytes ∷ bytes ∷ []) (scalar_type s) → GoodMember (member.Form (form_of p admits.Bytes admits.Bytes admits.Nothing admits.Nothing 1 s))
 of_two_bytes p s e = (
   two_types (Given (form_of p admits.Bytes admits.Bytes admits.Nothing admits.Nothing 1 s) (value_type (ty.Scalar s)))
-    (λ t u a. rw e (same_more (value_type t) bytes (value_type u ∷ []) (bytes ∷ []) (some_bytes t a.0) (same_one (value_type u) bytes (some_bytes u a.1.0)), scalar_plain s)),
+    (λ t u a. rw e (same_more (value_type t) bytes (value_type u ∷ []) (bytes ∷ []) (some_bytes t a.0) (same_one (value_type u) bytes (some_bytes u a.1.0)), scalar_is s)),
   λ h. kept_scalar s,
 )
 
-pub of_three_numbers : (p : Primitive) (s : Scalar) → shape_of p ≡ takes (uint64 ∷ uint64 ∷ uint64 ∷ []) (plain_scalar s) → GoodMember (member.Form (form_of p admits.Number admits.Number admits.Number admits.Nothing 1 s))
+pub of_three_numbers : (p : Primitive) (s : Scalar) → shape_of p ≡ takes (uint64 ∷ uint64 ∷ uint64 ∷ []) (scalar_type s) → GoodMember (member.Form (form_of p admits.Number admits.Number admits.Number admits.Nothing 1 s))
 of_three_numbers p s e = (
   three_types (Given (form_of p admits.Number admits.Number admits.Number admits.Nothing 1 s) (value_type (ty.Scalar s)))
-    (λ t u v a. rw e (same_more (value_type t) uint64 (value_type u ∷ value_type v ∷ []) (uint64 ∷ uint64 ∷ []) (a_number t a.0) (same_more (value_type u) uint64 (value_type v ∷ []) (uint64 ∷ []) (a_number u a.1.0) (same_one (value_type v) uint64 (a_number v a.1.1.0))), scalar_plain s)),
+    (λ t u v a. rw e (same_more (value_type t) uint64 (value_type u ∷ value_type v ∷ []) (uint64 ∷ uint64 ∷ []) (a_number t a.0) (same_more (value_type u) uint64 (value_type v ∷ []) (uint64 ∷ []) (a_number u a.1.0) (same_one (value_type v) uint64 (a_number v a.1.1.0))), scalar_is s)),
   λ h. kept_scalar s,
 )
 
-pub of_places : (p : Primitive) (s : Scalar) → shape_of p ≡ takes (bytes ∷ uint64 ∷ uint64 ∷ []) (plain_scalar s) → GoodMember (member.Form (form_of p admits.Bytes admits.Number admits.Number admits.Nothing 1 s))
+pub of_places : (p : Primitive) (s : Scalar) → shape_of p ≡ takes (bytes ∷ uint64 ∷ uint64 ∷ []) (scalar_type s) → GoodMember (member.Form (form_of p admits.Bytes admits.Number admits.Number admits.Nothing 1 s))
 of_places p s e = (
   three_types (Given (form_of p admits.Bytes admits.Number admits.Number admits.Nothing 1 s) (value_type (ty.Scalar s)))
-    (λ t u v a. rw e (same_more (value_type t) bytes (value_type u ∷ value_type v ∷ []) (uint64 ∷ uint64 ∷ []) (some_bytes t a.0) (same_more (value_type u) uint64 (value_type v ∷ []) (uint64 ∷ []) (a_number u a.1.0) (same_one (value_type v) uint64 (a_number v a.1.1.0))), scalar_plain s)),
+    (λ t u v a. rw e (same_more (value_type t) bytes (value_type u ∷ value_type v ∷ []) (uint64 ∷ uint64 ∷ []) (some_bytes t a.0) (same_more (value_type u) uint64 (value_type v ∷ []) (uint64 ∷ []) (a_number u a.1.0) (same_one (value_type v) uint64 (a_number v a.1.1.0))), scalar_is s)),
   λ h. kept_scalar s,
 )
 
-pub of_replaced : (p : Primitive) (s : Scalar) → shape_of p ≡ takes (bytes ∷ uint64 ∷ bytes ∷ []) (plain_scalar s) → GoodMember (member.Form (form_of p admits.Bytes admits.Number admits.Bytes admits.Nothing 1 s))
+pub of_replaced : (p : Primitive) (s : Scalar) → shape_of p ≡ takes (bytes ∷ uint64 ∷ bytes ∷ []) (scalar_type s) → GoodMember (member.Form (form_of p admits.Bytes admits.Number admits.Bytes admits.Nothing 1 s))
 of_replaced p s e = (
   three_types (Given (form_of p admits.Bytes admits.Number admits.Bytes admits.Nothing 1 s) (value_type (ty.Scalar s)))
-    (λ t u v a. rw e (same_more (value_type t) bytes (value_type u ∷ value_type v ∷ []) (uint64 ∷ bytes ∷ []) (some_bytes t a.0) (same_more (value_type u) uint64 (value_type v ∷ []) (bytes ∷ []) (a_number u a.1.0) (same_one (value_type v) bytes (some_bytes v a.1.1.0))), scalar_plain s)),
+    (λ t u v a. rw e (same_more (value_type t) bytes (value_type u ∷ value_type v ∷ []) (uint64 ∷ bytes ∷ []) (some_bytes t a.0) (same_more (value_type u) uint64 (value_type v ∷ []) (bytes ∷ []) (a_number u a.1.0) (same_one (value_type v) bytes (some_bytes v a.1.1.0))), scalar_is s)),
   λ h. kept_scalar s,
 )
 
 pub of_measured : (p : Primitive) → shape_of p ≡ measures → GoodMember (member.Form (form_of p admits.Either admits.Nothing admits.Nothing admits.Nothing 1 scalar.UInt64))
 of_measured p e = (
   one_type (Given (form_of p admits.Either admits.Nothing admits.Nothing admits.Nothing 1 scalar.UInt64) (value_type (ty.Scalar scalar.UInt64)))
-    (λ t a. rw e (value_type t, refl, either t a.0, scalar_plain scalar.UInt64)),
+    (λ t a. rw e (value_type t, refl, either t a.0, scalar_is scalar.UInt64)),
   λ h. kept_scalar scalar.UInt64,
 )
 
 pub of_bit : (p : Primitive) → shape_of p ≡ reads_bit → GoodMember (member.Form (form_of p admits.Either admits.Number admits.Nothing admits.Nothing 1 scalar.UInt64))
 of_bit p e = (
   two_types (Given (form_of p admits.Either admits.Number admits.Nothing admits.Nothing 1 scalar.UInt64) (value_type (ty.Scalar scalar.UInt64)))
-    (λ t u a. rw e (value_type t, ap (λ z. value_type t ∷ z ∷ []) (a_number u a.1.0), either t a.0, scalar_plain scalar.UInt64)),
+    (λ t u a. rw e (value_type t, ap (λ z. value_type t ∷ z ∷ []) (a_number u a.1.0), either t a.0, scalar_is scalar.UInt64)),
   λ h. kept_scalar scalar.UInt64,
 )
 
 -- ---- several numbers as the result
 
 two_words_is : value_type (results_type 2 scalar.UInt64) ≡ two_words
-two_words_is = tuple_value (ty.Scalar scalar.UInt64 ∷ ty.Scalar scalar.UInt64 ∷ []) ∙ ap (λ z. tuple (types_of (z ∷ z ∷ []))) (scalar_plain scalar.UInt64)
+two_words_is = tuple_value (ty.Scalar scalar.UInt64 ∷ ty.Scalar scalar.UInt64 ∷ []) ∙ ap (λ z. tuple (types_of (z ∷ z ∷ []))) (scalar_is scalar.UInt64)
 
 four_words_is : value_type (results_type 4 scalar.UInt64) ≡ four_words
-four_words_is = tuple_value (ty.Scalar scalar.UInt64 ∷ ty.Scalar scalar.UInt64 ∷ ty.Scalar scalar.UInt64 ∷ ty.Scalar scalar.UInt64 ∷ []) ∙ ap (λ z. tuple (types_of (z ∷ z ∷ z ∷ z ∷ []))) (scalar_plain scalar.UInt64)
+four_words_is = tuple_value (ty.Scalar scalar.UInt64 ∷ ty.Scalar scalar.UInt64 ∷ ty.Scalar scalar.UInt64 ∷ ty.Scalar scalar.UInt64 ∷ []) ∙ ap (λ z. tuple (types_of (z ∷ z ∷ z ∷ z ∷ []))) (scalar_is scalar.UInt64)
 
 pub of_numbers_two : (p : Primitive) → shape_of p ≡ takes (uint64 ∷ uint64 ∷ []) two_words → GoodMember (member.Form (form_of p admits.Number admits.Number admits.Nothing admits.Nothing 2 scalar.UInt64))
 of_numbers_two p e = (

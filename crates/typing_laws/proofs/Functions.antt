@@ -32,7 +32,8 @@ use Rattle.statement_check.specs.Noting.{target_local}
 use Rattle.type_check.specs.Functions.{param_local, target_words, first_locals, body, assigned_from, notes_of, end_when, end_of, type_known, local_types, function_of, typed_function}
 use Rattle.typing_laws.proofs.Good.{value_type, IsKeptType, IsResultType, Later, Settled, KeptLocals, Quiet, Agrees, GoodNames, KnowsFunction}
 use Rattle.typing_laws.proofs.Locals.{KeptParams, types_length, typed_at, all_settled, all_kept, first_kept, param_at, same_Fixed}
-use Rattle.typing_laws.proofs.Starting.{notes_behind, walk_started}
+use Rattle.typing_laws.proofs.Quieting.{tell_behind}
+use Rattle.typing_laws.proofs.Starting.{walk_started}
 use Rattle.typing_laws.proofs.TypeLaws.{nothing_value}
 use Rattle.typing_laws.proofs.Growing.{checks_later}
 use Rattle.typing_laws.proofs.Keeping.{checks_keep}
@@ -127,7 +128,7 @@ end_there : (g : SourceSignature) (f : Func) (t : SourceType) → g.result ≡ S
 end_there g f t e k = ap (end_when f.name.place) e ∙ rw (kept_something t (is_nothing t) refl k) refl
 
 body_quiet : (s : Scope) (inside : Bool) (g : SourceSignature) (f : Func) → QuietFunction s inside g f → Quiet false (body s inside g f).notes
-body_quiet s inside g f q r h = q r (told r (notes_behind false (assigned_from 0 g.params) (body s inside g f).notes r h))
+body_quiet s inside g f q r h = q r (told r (tell_behind false (assigned_from 0 g.params) (body s inside g f).notes r h))
 
 -- no walk of its notes reads an unassigned variable, and none gets to an end that is not there
 read_broken : (s : Scope) (inside : Bool) (g : SourceSignature) (f : Func) → QuietFunction s inside g f → (x : ℕ) (p : Place) (way : Way)

@@ -84,7 +84,8 @@ augment_later : (s : Scope) (t : Ex) (i : Option ℕ) (o : Operator) (e : Ex) �
 augment_later s t None o e = later_itself s.locals
 augment_later s t (Some i) o e = fixed_later s.locals i None
 
-value_later : (s : Scope) (p : Place) (i : ℕ) (t : Option (List Stmt)) (e : Option Ex) → Later s.locals (annotated_value s p i t e).locals
+-- the variables behind an annotation, where its value is judged
+pub value_later : (s : Scope) (p : Place) (i : ℕ) (t : Option (List Stmt)) (e : Option Ex) → Later s.locals (annotated_value s p i t e).locals
 value_later s p i t None = later_itself s.locals
 value_later s p i t (Some e) = fixed_later s.locals i _
 

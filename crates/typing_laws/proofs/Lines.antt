@@ -35,7 +35,7 @@ use Rattle.statement_check.specs.Statements.{seeing, assign_variable, annotated_
 use Rattle.typing_laws.proofs.Good.{Reading, Always, GoodNames, GoodScope, GoodJudged, Settled, KeptLocals, Later, Follows}
 use Rattle.typing_laws.proofs.Giving.{reading_append, reading_broken, reading_broken_all}
 use Rattle.typing_laws.proofs.Expressions.{judge_good}
-use Rattle.typing_laws.proofs.Growing.{later_itself, fixed_later, line_later, settled_before, kept_settled}
+use Rattle.typing_laws.proofs.Growing.{later_itself, line_later, settled_before, kept_settled, value_later}
 use Rattle.typing_laws.proofs.Keeping.{line_keeps}
 use Rattle.typing_laws.proofs.Readings.{Told, told_follow}
 use Rattle.typing_laws.proofs.Agreeing.{none_follow, notes_follow, break_follow, continue_follow, return_follow}
@@ -75,11 +75,6 @@ pub kept_before : (ls ms : List Local) → Later ls ms → KeptLocals ms → Kep
 kept_before ls ms h k i l t e f =
     let r = h.stays i l (Some t) e f in
     k i r.local t r.at r.status
-
--- the variables behind an annotation, where its value is judged
-value_later : (s : Scope) (p : Place) (i : ℕ) (t : Option (List Stmt)) (e : Option Ex) → Later s.locals (annotated_value s p i t e).locals
-value_later s p i t None = later_itself s.locals
-value_later s p i t (Some e) = fixed_later s.locals i _
 
 pub good_at : (names : Names) (s : Scope) (ls ms : List Local) → GoodNames names s → Later ls ms → KeptLocals ms → Settled names ms → GoodScope names (seeing s ls)
 good_at names s ls ms g h k m = record {

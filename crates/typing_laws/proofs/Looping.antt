@@ -8,10 +8,11 @@ use Rattle.path_rules.specs.Steps.{Steps, no_steps, a_step, before, an_arm, an_e
 use Rattle.path_rules.specs.Walks as Walks
 use Rattle.path_rules.specs.Walks.{out, goes, leaves, is_on, behind_arm, behind_if, behind_loop}
 use Rattle.path_rules.proofs.WalkLaws.{stop_before, on_before, one_to}
+use Rattle.typing_laws.proofs.Truths.{never}
 use Rattle.typing_laws.proofs.Good.{Agrees, Follows, Followed}
 use Rattle.typing_laws.proofs.Readings.{MovesRead, moves_stand}
 use Rattle.typing_laws.proofs.Moving.{split, one_from, forks_cases, loop_cases}
-use Rattle.typing_laws.proofs.Agreeing.{goes_agrees, break_agrees, continue_agrees, end_agrees, read_agrees, neither, stops_agree, none_follow, joined_follow, sets_follow, forgets_follow}
+use Rattle.typing_laws.proofs.Agreeing.{goes_agrees, break_agrees, continue_agrees, end_agrees, read_agrees, stops_agree, none_follow, joined_follow, sets_follow, forgets_follow}
 
 -- ---- an `if`
 
@@ -133,7 +134,7 @@ in_turn_body x test body ends c b s t u w v f h k =
 module _ (test body : Steps) (c b : Moves) (f : Follows test c) (g : Follows body b) (reads : MovesRead (λ y. true) c) where
   -- a test that stops stops at a read
   test_stops : (x : ℕ) (ends : Bool) (s t : Bool) (w : Way) → Paths.is_going w ≡ false → Paths.Walks x c s w t → TurnFollowed x (turn_steps test ends body) s w t
-  test_stops x ends s t Paths.goes_on e h = absurd (neither e)
+  test_stops x ends s t Paths.goes_on e h = never (sym e)
   test_stops x ends s t Paths.at_break e h = absurd (moves_stand x (λ y. true) c s t Paths.at_break h reads).1
   test_stops x ends s t Paths.at_continue e h = absurd (moves_stand x (λ y. true) c s t Paths.at_continue h reads).1
   test_stops x ends s t Paths.at_end e h = absurd (moves_stand x (λ y. true) c s t Paths.at_end h reads).1

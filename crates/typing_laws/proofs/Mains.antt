@@ -5,10 +5,7 @@ use Rattle.std.proofs.lemmas.Option.{none-some, same_Some}
 use Rattle.puya_base.specs.declared.source.Place.{Place}
 use Rattle.puya_base.specs.declared.source.Refusal.{Refusal}
 use Rattle.puya_base.specs.declared.source.Rule.TheVariants as rule
-use Rattle.awst.specs.declared.ty.Ty.TheVariants as awst
-use Rattle.awst.specs.declared.ty.Ty.TheOpen.{Ty-F}
-use Rattle.awst.specs.declared.ty.Ty.TheFolds.{fold-roll-Ty}
-use Rattle.awst.specs.Types.{ValueType, uint64, bool, type_of, type_layer}
+use Rattle.awst.specs.Types.{uint64, bool}
 use Rattle.py_grammar.specs.declared.module.Func.{Func}
 use Rattle.py_grammar.specs.declared.module.Class.{Class}
 use Rattle.py_grammar.specs.declared.module.Member.{Member}
@@ -16,16 +13,15 @@ use Rattle.py_grammar.specs.declared.module.Member.TheVariants as member
 use Rattle.algopy_library.specs.declared.scalar.Scalar.{Scalar}
 use Rattle.algopy_library.specs.declared.scalar.Scalar.TheVariants as scalar
 use Rattle.source_names.specs.declared.types.SourceType.{SourceType}
-use Rattle.source_names.specs.declared.types.SourceType.TheVariants as ty
 use Rattle.source_names.specs.declared.named.Entry.{Entry}
 use Rattle.source_names.specs.declared.signature.Parameter.{Parameter}
 use Rattle.source_names.specs.Types.{scalar_of}
-use Rattle.source_names.specs.Equations.{typed-Scalar}
 use Rattle.source_names.specs.Faults.{breaks}
 use Rattle.source_headers.specs.Headers.{signature, signature_faults, decorators, all_unwanted, twice}
 use Rattle.source_headers.specs.Classes.{functions, is_program, first_from, gives_truth, wrong_result, is_empty, program_faults, selfless, function_faults, member_faults, all_member_faults, member_names, missing, missing_programs, contract_faults}
+use Rattle.typing_laws.proofs.Truths.{never}
 use Rattle.typing_laws.proofs.Good.{value_type}
-use Rattle.typing_laws.proofs.TypeLaws.{scalar_value}
+use Rattle.typing_laws.proofs.TypeLaws.{scalar_value_is}
 
 -- ---- lists of broken rules that have none
 
@@ -111,20 +107,11 @@ main_good es c h i f e k =
 
 -- ---- their results
 
-value-UInt64 : value_type (ty.Scalar scalar.UInt64) ≡ uint64
-value-UInt64 = ap type_of (typed-Scalar scalar.UInt64) ∙ ap type_of (sym awst.rolls-UInt64) ∙ fold-roll-Ty ValueType type_layer Ty-F.UInt64
-
-value-Bool : value_type (ty.Scalar scalar.Bool) ≡ bool
-value-Bool = ap type_of (typed-Scalar scalar.Bool) ∙ ap type_of (sym awst.rolls-Bool) ∙ fold-roll-Ty ValueType type_layer Ty-F.Bool
-
-is_wrong : true ≡ false → ⊥
-is_wrong h = cc
-
 truth_by : (t : SourceType) (o : Option Scalar) → scalar_of t ≡ o → (if gives_truth o then false else true) ≡ false → (value_type t ≡ uint64) ⊎ (value_type t ≡ bool)
-truth_by t None e h = absurd (is_wrong h)
-truth_by t (Some scalar.UInt64) e h = inl (scalar_value t scalar.UInt64 e ∙ value-UInt64)
-truth_by t (Some scalar.Bool) e h = inr (scalar_value t scalar.Bool e ∙ value-Bool)
-truth_by t (Some _) e h = absurd (is_wrong h)
+truth_by t None e h = never (sym h)
+truth_by t (Some scalar.UInt64) e h = inl (scalar_value_is t scalar.UInt64 e)
+truth_by t (Some scalar.Bool) e h = inr (scalar_value_is t scalar.Bool e)
+truth_by t (Some _) e h = never (sym h)
 
 pub truth_type : (t : SourceType) → wrong_result (Some t) ≡ false → (value_type t ≡ uint64) ⊎ (value_type t ≡ bool)
 truth_type t h = truth_by t (scalar_of t) refl h

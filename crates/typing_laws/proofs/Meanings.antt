@@ -1,6 +1,7 @@
 -- Literals, values and conditions are good where what they are made of is.
-use Rattle.std.proofs.Common.{◌≡◌, ◌∙◌, unwrap_or, Bool, true, false, Option, Some, None, [], ◌∷◌, refl, sym, subst}
+use Rattle.std.proofs.Common.{◌≡◌, ◌∙◌, unwrap_or, Bool, true, false, Option, Some, None, [], ◌∷◌, refl, sym, ap, subst}
 use Rattle.std.specs.Prelude.{IsTrue, if◌then◌else◌}
+use Rattle.std.proofs.lemmas.Option.{none-some, same_Some}
 use Rattle.puya_base.specs.declared.source.Place.{Place}
 use Rattle.puya_base.specs.declared.source.Rule.TheVariants as rule
 use Rattle.awst.specs.Shapes as shapes
@@ -43,6 +44,14 @@ pub literal_good : (w : World) (h : Hope) (p : Place) (l : Lit) → Gives w (Goo
 literal_good w (hope.Wants t) p l = literal_by w p l (same_type t (lit_type l))
 literal_good w hope.Free p l = gives_broken w _ _ rule.P14 p (λ g. tt)
 literal_good w hope.Unknown p l = gives_none w _ _ (λ g. tt)
+
+literal_type_by : (t : SourceType) (p : Place) (l : Lit) (b : Bool) (u : Typed) → same_type t (lit_type l) ≡ b → (literal_when p l b).typed ≡ Some u → value_type u.ty ≡ value_type t
+literal_type_by t q l true u e h = ap (λ (v : Typed). value_type v.ty) (sym (same_Some (lit_node q l) u h)) ∙ sym (same_value t (lit_type l) e)
+literal_type_by t q l false u e h = absurd (none-some u h)
+
+-- a literal that fits has the type that is wanted
+pub literal_type : (t : SourceType) (p : Place) (l : Lit) (u : Typed) → (literal (hope.Wants t) p l).typed ≡ Some u → value_type u.ty ≡ value_type t
+literal_type t p l u h = literal_type_by t p l (same_type t (lit_type l)) u refl h
 
 -- ---- values
 

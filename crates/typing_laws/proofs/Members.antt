@@ -10,7 +10,7 @@ use Rattle.algopy_library.specs.declared.member.Member.{Member}
 use Rattle.algopy_library.specs.Tables.{named_in}
 use Rattle.algopy_library.specs.Members.{operations, transaction, globals, members_of, member_named}
 use Rattle.typing_laws.proofs.Good.{GoodMember}
-use Rattle.typing_laws.proofs.CallTrees.{scalar_plain}
+use Rattle.typing_laws.proofs.TypeLaws.{scalar_is}
 use Rattle.typing_laws.proofs.Forms.{of_number, of_bytes, of_numbers, of_place, of_two_bytes, of_three_numbers, of_places, of_replaced, of_measured, of_bit, of_numbers_two, of_numbers_four}
 
 abbrev GoodRows : List (List ℕ × Member) → Type 0
@@ -63,21 +63,21 @@ operations_good =
 
 transaction_good : GoodRows transaction
 transaction_good =
-    ((refl, scalar_plain scalar.Account),
-    ((refl, scalar_plain scalar.UInt64),
-    ((refl, scalar_plain scalar.Bytes),
-    ((refl, scalar_plain scalar.UInt64),
-    ((refl, scalar_plain scalar.UInt64),
+    ((refl, scalar_is scalar.Account),
+    ((refl, scalar_is scalar.UInt64),
+    ((refl, scalar_is scalar.Bytes),
+    ((refl, scalar_is scalar.UInt64),
+    ((refl, scalar_is scalar.UInt64),
     ((refl, refl),
     (of_number prim.TxnApplicationArgs scalar.Bytes refl,
     tt)))))))
 
 globals_good : GoodRows globals
 globals_good =
-    ((refl, scalar_plain scalar.Account),
-    ((refl, scalar_plain scalar.Account),
-    ((refl, scalar_plain scalar.UInt64),
-    ((refl, scalar_plain scalar.UInt64),
+    ((refl, scalar_is scalar.Account),
+    ((refl, scalar_is scalar.Account),
+    ((refl, scalar_is scalar.UInt64),
+    ((refl, scalar_is scalar.UInt64),
     ((refl, refl),
     tt)))))
 

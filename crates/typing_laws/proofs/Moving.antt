@@ -3,9 +3,6 @@ use Rattle.std.proofs.Common.{◌≡◌, ℕ, ◌⊎◌, inl, inr, Bool, true, f
 use Rattle.std.specs.Prelude.{if◌then◌else◌, ◌==◌}
 use Rattle.awst.specs.Paths.{Move, Moves, Way, Walk, Walks, Turning, none, one, joined, sets, forgets, forks, loops, goes_on, at_break, at_continue, at_end, at_read, is_going, state_behind, reading, past_read, setting, forgetting, first_way, second_way, looping, breaking, continuing, leaving, ended, stopped, went_on, over, in_test, broken, returned, in_body, again, again_by_continue}
 
-neither : true ≡ false → ⊥
-neither e = cc
-
 -- ---- one list behind another
 
 pub joined-none : (ms : Moves) → joined ms none ≡ ms

@@ -1,6 +1,7 @@
 -- Nodes of typed trees: what their plain trees are, and when they are good.
 use Rattle.std.proofs.Common.{◌≡◌, ◌∙◌, ℕ, zero, suc, ◌<◌, ◌≤◌, get_or, arith, unwrap_or, Bool, Some, List, [], ◌∷◌, length, map, inl, inr, refl, sym, ap, ap₂, subst}
 use Rattle.std.specs.Prelude.{IsTrue, slice_get, option_map}
+use Rattle.std.proofs.lemmas.Option.{slice_get-map}
 use Rattle.puya_base.specs.declared.source.Place.{Place}
 use Rattle.awst.specs.declared.primitive.Primitive.{Primitive}
 use Rattle.awst.specs.declared.expression.Expr.{Expr}
@@ -30,9 +31,6 @@ use Rattle.typing_laws.proofs.TypeLaws.{scalar_is, kept_scalar, parts_value, kep
 use Rattle.typing_laws.proofs.Good.{World, Within, FormWithin, AllWithin, value_type, IsResultType, IsKeptType, GoodTyped, GoodTypeds, EachKept}
 
 -- ---- the plain form of each kind
-
-
-
 
 pub bare-Int : (n : ℕ) → bare_of (kind.Int n) ≡ kind_layer (ExprKind-F.Int n)
 bare-Int n = ap bare_of (sym (kind.rolls-Int n)) ∙ fold-roll-ExprKind Bare Which Ex kind_layer index_layer expr_layer (ExprKind-F.Int n)
@@ -160,11 +158,6 @@ listed_types : (ts : List ValueType) → type_list (types_of ts) ≡ ts
 listed_types [] = refl
 listed_types (t ∷ ts) = ap (λ z. t ∷ z) (listed_types ts)
 
-pub mapped_at : {A B : Type 0} (f : A → B) (xs : List A) (i : ℕ) (x : A) → slice_get xs i ≡ Some x → slice_get (map f xs) i ≡ Some (f x)
-mapped_at f [] i x h = cc
-mapped_at f (y ∷ xs) zero x h = ap (option_map f) h
-mapped_at f (y ∷ xs) (suc i) x h = mapped_at f xs i x h
-
 kept_in : (ts : List SourceType) (i : ℕ) (t : SourceType) → EachKept ts → slice_get ts i ≡ Some t → IsKeptType t
 kept_in [] i t k h = cc
 kept_in (u ∷ ts) zero t k h = subst (λ z. IsKeptType (unwrap_or z u)) h k.0
@@ -174,6 +167,7 @@ kept_in (u ∷ ts) (suc i) t k h = kept_in ts i t k.1 h
 pub item_good : (w : World) (p : Place) (b : Typed) (ts : List SourceType) (i : ℕ) (t : SourceType) → GoodTyped w b → IsKeptType b.ty → tuple_parts b.ty ≡ Some ts → slice_get ts i ≡ Some t → GoodTyped w (a_node p t (kind.Item b.expr (index.Fixed i)))
 item_good w p b ts i t g k h e =
     node_good w p _ _ _ (bare-Item b.expr (index.Fixed i) ∙ ap (plain.item (tree_of b.expr)) (which-Fixed i))
-    ((g.sound, tt), (types_of (map value_type ts), ap (λ z. z ∷ []) (g.type_is ∙ parts_value b.ty ts h), ap (λ z. slice_get z i) (listed_types (map value_type ts)) ∙ mapped_at value_type ts i t e))
+    ((g.sound, tt), (types_of (map value_type ts), ap (λ z. z ∷ []) (g.type_is ∙ parts_value b.ty ts h),
+      ap (λ z. slice_get z i) (listed_types (map value_type ts)) ∙ slice_get-map value_type ts i ∙ ap (option_map value_type) e))
     (g.reads, tt)
     (λ z. kept_in ts i t (kept_parts b.ty ts h k) e)

@@ -15,7 +15,7 @@ tell_front : (i : Bool) (a b : List Note) (r : Refusal) → TellAll i (steps_of 
 tell_front i [] b r t = absurd t
 tell_front i (n ∷ ns) b r t = elim t [ inl h ↦ inl h | inr h ↦ inr (tell_front i ns b r h) ]
 
-tell_behind : (i : Bool) (a b : List Note) (r : Refusal) → TellAll i (steps_of b) r → TellAll i (steps_of (a ++ b)) r
+pub tell_behind : (i : Bool) (a b : List Note) (r : Refusal) → TellAll i (steps_of b) r → TellAll i (steps_of (a ++ b)) r
 tell_behind i [] b r t = t
 tell_behind i (n ∷ ns) b r t = inr (tell_behind i ns b r t)
 

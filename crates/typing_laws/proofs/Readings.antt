@@ -9,7 +9,9 @@ use Rattle.awst.specs.Tree.{Ex, ex, Form, constant, variable, strict, both, one_
 use Rattle.path_rules.specs.declared.note.Note.{Note}
 use Rattle.path_rules.specs.Steps.{Step, broken, read, assign, forget, arm, choice, may_end, loop, break, continue, return, Steps, step_of, steps_of}
 use Rattle.path_rules.specs.Walks as Walks
+use Rattle.typing_laws.proofs.Truths.{never}
 use Rattle.typing_laws.proofs.Good.{IsReading, IsAllowed, Reading, Allows, Within, FormWithin, AllWithin, Follows, Followed}
+use Rattle.typing_laws.proofs.Anywhere.{allows_all}
 
 -- ---- moves that are reads alone
 
@@ -154,23 +156,6 @@ stops_or_not x (n ∷ ns) h = elim (step_by x (step_of n) h.0) [
     ]
   ]
 
-all_allowed : (ns : List Note) → Reading ns → Allows (λ y. true) ns
-all_allowed [] h = tt
-all_allowed (n ∷ ns) h = (allowed_step (step_of n), all_allowed ns h.1)
-  where
-    allowed_step : (f : Step) → IsAllowed (λ y. true) f
-    allowed_step (broken r) = tt
-    allowed_step (read y p) = refl
-    allowed_step (assign y) = tt
-    allowed_step (forget y) = tt
-    allowed_step (arm always body) = tt
-    allowed_step (choice fs) = tt
-    allowed_step may_end = tt
-    allowed_step (loop fs) = tt
-    allowed_step (break p) = tt
-    allowed_step (continue p) = tt
-    allowed_step return = tt
-
 -- ---- notes on expressions, and the moves of these
 
 pub record Told (ns : List Note) (ms : Moves) : Type 0 where
@@ -181,12 +166,9 @@ pub record Told (ns : List Note) (ms : Moves) : Type 0 where
 goes_same : (x : ℕ) (ns : List Note) (s t : Bool) → Reading ns → s ≡ t → Followed x (steps_of ns) s Paths.goes_on t
 goes_same x ns s t h e = record { way = Walks.out Walks.goes; agrees = tt; walk = subst (λ z. Walks.Walks x (steps_of ns) s (Walks.out Walks.goes) z) e (passed x ns s h) }
 
-neither : false ≡ true → ⊥
-neither e = cc
-
 -- a variable that is not read stops no walk
 not_itself_by : (x : ℕ) (b : Bool) → (x == x) ≡ b → IsTrue (not b) → ⊥
-not_itself_by x true e h = absurd (neither h)
+not_itself_by x true e h = never h
 not_itself_by x false e h = eqb-false x x e refl
 
 not_itself : (x : ℕ) → IsTrue (but x x) → ⊥
@@ -203,9 +185,9 @@ told_by x ns ms k s t Paths.at_end h e g c = absurd g
 -- each walk of an expression is one of the notes on it
 pub told_follow : (ns : List Note) (ms : Moves) → Told ns ms → Follows (steps_of ns) ms
 told_follow ns ms k x s t w h =
-    let r = moves_stand x (λ y. true) ms s t w h (k.moves (λ y. true) (all_allowed ns k.reading)) in
+    let r = moves_stand x (λ y. true) ms s t w h (k.moves (λ y. true) (allows_all ns)) in
     told_by x ns ms k s t w h r.0 r.1 (stops_or_not x ns k.reading)
 
 -- what is told of moves as such
 pub told_reads : (ns : List Note) (ms : Moves) → Told ns ms → MovesRead (λ y. true) ms
-told_reads ns ms k = k.moves (λ y. true) (all_allowed ns k.reading)
+told_reads ns ms k = k.moves (λ y. true) (allows_all ns)

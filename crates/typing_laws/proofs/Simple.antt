@@ -33,12 +33,11 @@ use Rattle.typing_laws.proofs.Growing.{settled_before, fixed_later, line_later}
 use Rattle.typing_laws.proofs.Annotated.{annotation_kept}
 use Rattle.typing_laws.proofs.Anywhere.{anywhere, names_at, scope_now, meaning_given, judged_value, option_given, condition_given}
 use Rattle.typing_laws.proofs.Quieting.{quiet_break, quiet_continue}
-use Rattle.typing_laws.proofs.Placing.{SoundWhen, none_sound, drop_sound, assert_sound, break_sound, continue_sound, return_sound}
+use Rattle.typing_laws.proofs.StatementNodes.{SoundWhen, none_sound, drop_sound, assert_sound, break_sound, continue_sound, return_sound}
 use Rattle.typing_laws.proofs.Taking.{Exists, variable_exists, exists_later, slots_exist}
 use Rattle.typing_laws.proofs.Unpacking.{variable_sound, unpack_sound}
 use Rattle.typing_laws.proofs.Augmenting.{augment_sound}
-use Rattle.typing_laws.proofs.Updates.{LineUpdates}
-use Rattle.typing_laws.proofs.Scalars.{is_update}
+use Rattle.typing_laws.proofs.Updates.{is_update, LineUpdates}
 
 module _ (names : Names) (within : Within) where
   -- ---- returns, assertions, expressions

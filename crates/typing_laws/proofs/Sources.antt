@@ -11,8 +11,7 @@ use Rattle.py_grammar.specs.declared.statement.Block.{Block, map-Block}
 use Rattle.py_grammar.specs.declared.statement.Block.TheOpen.{Stmt-F, Branch-F, Block-F}
 use Rattle.py_grammar.specs.declared.statement.Block.TheFolds.{ind-Block, fold-roll-Stmt, fold-roll-Branch, fold-roll-Block}
 use Rattle.statement_check.specs.Lines.{St, Sts, OneBranch, no_stmts, sts_of, branches_of, line_of, update_operator, stmt_layer, branch_layer, block_layer, stmt_of, branch_of, block_of}
-use Rattle.typing_laws.proofs.Scalars.{is_update}
-use Rattle.typing_laws.proofs.Updates.{LineUpdates, Updates, AllUpdate, BranchesUpdate}
+use Rattle.typing_laws.proofs.Updates.{is_update, LineUpdates, Updates, AllUpdate, BranchesUpdate}
 
 operator_updates : (o : UpdateOp) → IsTrue (is_update (update_operator o))
 operator_updates update.Add = refl

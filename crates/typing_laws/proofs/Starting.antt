@@ -1,28 +1,16 @@
 -- The notes of a function: its parameters are assigned, and then its body runs.
-use Rattle.std.proofs.Common.{◌≡◌, ℕ, ◌+◌, length, arith, Bool, true, false, List, [], ◌∷◌, ◌++◌, inr, refl, sym, ap, subst}
+use Rattle.std.proofs.Common.{◌≡◌, ℕ, ◌+◌, length, arith, Bool, true, false, List, [], ◌∷◌, ◌++◌, refl, sym, subst}
 use Rattle.std.specs.Prelude.{if◌then◌else◌, ◌==◌, nat_lt}
 use Rattle.std.proofs.lemmas.Bool.{lt-ltb, le-ltb, ltb-true, ltb-false, eqb-true, eqb-false}
-use Rattle.puya_base.specs.declared.source.Refusal.{Refusal}
 use Rattle.path_rules.specs.declared.note.Note.{Note}
 use Rattle.path_rules.specs.declared.note.Note.TheVariants as note
-use Rattle.path_rules.specs.Steps.{Steps, no_steps, a_step, assign, before, step_of, steps_of}
+use Rattle.path_rules.specs.Steps.{no_steps, assign, step_of, steps_of}
 use Rattle.path_rules.specs.Walks.{Way, goes, out, Walk, assigns, Walks, ended, went_on}
-use Rattle.path_rules.specs.Rules.{TellAll}
 use Rattle.path_rules.proofs.Equations.{step-Assign}
 use Rattle.path_rules.proofs.WalkLaws.{on_before}
 use Rattle.source_names.specs.declared.signature.Parameter.{Parameter}
 use Rattle.type_check.specs.Functions.{assigned_from}
-
-pub steps_append : (a b : List Note) → steps_of (a ++ b) ≡ before (steps_of a) (steps_of b)
-steps_append [] b = refl
-steps_append (n ∷ ns) b = ap (a_step (step_of n)) (steps_append ns b)
-
-told_behind : (inside : Bool) (fs gs : Steps) (r : Refusal) → TellAll inside gs r → TellAll inside (before fs gs) r
-told_behind inside no_steps gs r h = h
-told_behind inside (a_step f fs) gs r h = inr (told_behind inside fs gs r h)
-
-pub notes_behind : (inside : Bool) (a b : List Note) (r : Refusal) → TellAll inside (steps_of b) r → TellAll inside (steps_of (a ++ b)) r
-notes_behind inside a b r h = subst (λ z. TellAll inside z r) (sym (steps_append a b)) (told_behind inside (steps_of a) (steps_of b) r h)
+use Rattle.typing_laws.proofs.Agreeing.{steps-append}
 
 below_by : (x i : ℕ) (b c : Bool) → (x == i) ≡ b → nat_lt x i ≡ c → (if b then true else c) ≡ nat_lt x (i + 1)
 below_by x i true c e k = sym (lt-ltb x (i + 1) (omega (arith, eqb-true x i e)))
@@ -44,4 +32,4 @@ walk_assigned x (p ∷ ps) i n e =
 pub walk_started : (x : ℕ) (ps : List Parameter) (b : List Note) (w : Way) (t : Bool) → Walks x (steps_of b) (nat_lt x (length ps)) w t → Walks x (steps_of (assigned_from 0 ps ++ b)) false w t
 walk_started x ps b w t h =
     let first = subst (λ s. Walks x (steps_of (assigned_from 0 ps)) s (out goes) (nat_lt x (length ps))) (le-ltb x 0 (omega arith)) (walk_assigned x ps 0 (length ps) (omega arith)) in
-    subst (λ z. Walks x z false w t) (sym (steps_append (assigned_from 0 ps) b)) (on_before x (steps_of (assigned_from 0 ps)) (steps_of b) false (nat_lt x (length ps)) w t first h)
+    subst (λ z. Walks x z false w t) (sym (steps-append (assigned_from 0 ps) b)) (on_before x (steps_of (assigned_from 0 ps)) (steps_of b) false (nat_lt x (length ps)) w t first h)

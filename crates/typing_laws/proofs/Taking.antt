@@ -1,7 +1,7 @@
 -- Variables take the values that are assigned to them: they exist, and have the type that is fixed of them.
 use Rattle.std.proofs.Common.{◌≡◌, ℕ, suc, ◌+◌, ◌<◌, Bool, true, false, List, [], ◌∷◌, map, Option, Some, None, refl, sym, ap, ◌∙◌, subst, arith}
 use Rattle.std.specs.Prelude.{slice_get, if◌then◌else◌, bytes_eq, get_or}
-use Rattle.std.proofs.lemmas.Option.{slice_get_within, slice_get-get_or}
+use Rattle.std.proofs.lemmas.Option.{slice_get_within, slice_get-get_or, none-some, same_Some}
 use Rattle.py_grammar.specs.declared.word.Word.{Word}
 use Rattle.awst.specs.declared.statement.Target.{Target}
 use Rattle.awst.specs.Types.{types_of}
@@ -17,9 +17,10 @@ use Rattle.meaning_rules.specs.Operations.{local_from, local_of}
 use Rattle.expression_check.specs.Variables.{fixed, status_at}
 use Rattle.statement_check.specs.Targets.{target_name}
 use Rattle.statement_check.specs.Statements.{variable_of, slots, taken, status_takes, both_targets, slot_targets}
+use Rattle.typing_laws.proofs.Truths.{never}
 use Rattle.typing_laws.proofs.Good.{value_type, Settled, SettledType, Later}
 use Rattle.typing_laws.proofs.TypeLaws.{same_value}
-use Rattle.typing_laws.proofs.Fixing.{none_some, some_same, FixedNow, fixed_now}
+use Rattle.typing_laws.proofs.Fixing.{FixedNow, fixed_now}
 use Rattle.typing_laws.proofs.Growing.{settled_before, taken_later, fixed_later}
 
 -- ---- a variable's number
@@ -45,11 +46,11 @@ further : (k : ℕ) (l : Local) (ls : List Local) (i : ℕ) → Behind (suc k) l
 further k l ls i b = record { number = suc b.number; is = one_further k b.number i b.is; local = b.local; at = b.at }
 
 found_by : (k : ℕ) (n : List ℕ) (l : Local) (ls : List Local) (i : ℕ) (b : Bool) → (if b then Some k else local_from (suc k) n ls) ≡ Some i → ((h : local_from (suc k) n ls ≡ Some i) → Behind (suc k) ls i) → Behind k (l ∷ ls) i
-found_by k n l ls i true h f = record { number = 0; is = here_is k i (some_same k i h); local = l; at = refl }
+found_by k n l ls i true h f = record { number = 0; is = here_is k i (same_Some k i h); local = l; at = refl }
 found_by k n l ls i false h f = further k l ls i (f h)
 
 found_from : (k : ℕ) (n : List ℕ) (ls : List Local) (i : ℕ) → local_from k n ls ≡ Some i → Behind k ls i
-found_from k n [] i h = none_some i h
+found_from k n [] i h = absurd (none-some i h)
 found_from k n (l ∷ ls) i h = found_by k n l ls i (bytes_eq l.name n) h (λ g. found_from (suc k) n ls i g)
 
 no_further : (m i : ℕ) → i ≡ 0 + m → m ≡ i
@@ -61,7 +62,7 @@ local_exists s n i h =
     record { local = b.local; at = subst (λ z. slice_get s.locals z ≡ Some b.local) (no_further b.number i b.is) b.at }
 
 pub variable_exists : (s : Scope) (w : Option Word) (i : ℕ) → variable_of s w ≡ Some i → Exists s.locals i
-variable_exists s None i h = none_some i h
+variable_exists s None i h = absurd (none-some i h)
 variable_exists s (Some w) i h = local_exists s w.name i h
 
 pub exists_later : (ls ms : List Local) (i : ℕ) → Later ls ms → Exists ls i → Exists ms i
@@ -73,7 +74,7 @@ type_by : (names : Names) (ls : List Local) (i : ℕ) (t : SourceType) (s : Stat
     → slice_get names.variables i ≡ Some (value_type t)
 type_by names ls i t status.Unseen n h f =
     let k : SettledType names i n.ty = h i n.stays.local n.ty n.stays.at n.stays.status in
-    k.at ∙ ap (λ (u : SourceType). Some (value_type u)) (some_same k.ty t (sym k.is ∙ n.is refl))
+    k.at ∙ ap (λ (u : SourceType). Some (value_type u)) (same_Some k.ty t (sym k.is ∙ n.is refl))
 type_by names ls i t (status.Fixed u) n h f =
     let k : SettledType names i n.ty = h i n.stays.local n.ty n.stays.at n.stays.status in
     k.at ∙ ap Some (f k.ty (ap status.Fixed (sym (n.was u refl) ∙ k.is)))
@@ -114,21 +115,18 @@ EachTakes names (i ∷ is) [] = ⊥
 EachTakes names (None ∷ is) (t ∷ ts) = EachTakes names is ts
 EachTakes names (Some i ∷ is) (t ∷ ts) = (slice_get names.variables i ≡ Some (value_type t)) × EachTakes names is ts
 
-not_all : {A : Type 0} → false ≡ true → A
-not_all e = absurd (cc)
-
 first_part : (b c : Bool) → (if b then c else false) ≡ true → b ≡ true
 first_part true c h = refl
-first_part false c h = not_all h
+first_part false c h = never h
 
 second_part : (b c : Bool) → (if b then c else false) ≡ true → c ≡ true
 second_part true c h = h
-second_part false c h = not_all h
+second_part false c h = never h
 
 pub all_take : (names : Names) (ls : List Local) (is : List (Option ℕ)) (ts : List SourceType) → (taken ls is ts).all ≡ true → EachExists ls is → Settled names (taken ls is ts).locals → EachTakes names is ts
 all_take names ls [] [] h e k = tt
-all_take names ls [] (t ∷ ts) h e k = not_all h
-all_take names ls (i ∷ is) [] h e k = not_all h
+all_take names ls [] (t ∷ ts) h e k = never h
+all_take names ls (i ∷ is) [] h e k = never h
 all_take names ls (None ∷ is) (t ∷ ts) h e k = all_take names ls is ts h e k
 all_take names ls (Some i ∷ is) (t ∷ ts) h e k =
     (type_fixed names ls i t e.0 (settled_before names (fixed ls i (Some t)) (taken (fixed ls i (Some t)) is ts).locals (taken_later (fixed ls i (Some t)) is ts) k)

@@ -1,6 +1,7 @@
 -- The walks of loops are walks of the notes on them.
 use Rattle.std.proofs.Common.{◌≡◌, ℕ, Bool, true, List, [], ◌∷◌, ◌++◌, Option, Some, None, refl, sym, ◌∙◌, ap, subst}
 use Rattle.std.specs.Prelude.{not}
+use Rattle.std.proofs.lemmas.Option.{none-some, same_Some}
 use Rattle.puya_base.specs.declared.source.Place.{Place}
 use Rattle.awst.specs.declared.expression.Expr.{Expr}
 use Rattle.awst.specs.declared.statement.Stmt.{Stmt}
@@ -41,7 +42,7 @@ use Rattle.typing_laws.proofs.Agreeing.{notes_follow}
 use Rattle.typing_laws.proofs.Looping.{loop_follow, items_follow}
 use Rattle.typing_laws.proofs.Deeds.{moves_of, InLoop, moves-While, moves-Range, moves-Each, true-always}
 use Rattle.typing_laws.proofs.Telling.{world, told_front}
-use Rattle.typing_laws.proofs.Assigning.{AllFollow, DoneFollows, none_some, some_is, untyped_follow, typed_follow}
+use Rattle.typing_laws.proofs.Assigning.{AllFollow, DoneFollows, untyped_follow, typed_follow}
 
 -- ---- `while`
 
@@ -78,7 +79,7 @@ abbrev pub OverTold : Over → Type 0
 OverTold o = (k : ℕ → List Stmt → StmtKind) → o.over ≡ Some k → GoneOver o.notes k
 
 no_over : (ns : List Note) (k : ℕ → List Stmt → StmtKind) → None ≡ Some k → GoneOver ns k
-no_over ns k e = absurd (none_some k e)
+no_over ns k e = absurd (none-some k e)
 
 optional_reads : (reads : ℕ → Bool) (o : Option Expr) (n : Names) (r : Range) → r.start ≡ o → GoodRange (world n reads) r → MovesRead reads (optional_moves (optional_tree o))
 optional_reads reads None n r e g = tt
@@ -106,7 +107,7 @@ scalar_over ns t (Some scalar.Bool) h k e = no_over _ k e
 scalar_over ns t (Some scalar.Text) h k e = no_over _ k e
 scalar_over ns t (Some scalar.Account) h k e = no_over _ k e
 scalar_over ns t (Some scalar.Bytes) h k e =
-    subst (GoneOver (ns ++ [])) (some_is (λ i b. kind.Each i t.expr b) k e) (record {
+    subst (GoneOver (ns ++ [])) (same_Some (λ i b. kind.Each i t.expr b) k e) (record {
       moves = ex_moves (tree_of t.expr);
       told = told_front ns [] (ex_moves (tree_of t.expr)) h tt;
       is = λ vs a p i body. moves-Each vs a p i t.expr body;
@@ -125,7 +126,7 @@ value_over names p j g k e =
     operand_over names o.notes o.operand (λ reads. operand_good (world names reads) p j (g reads)) k e
 
 over_by : (names : Names) (p : Place) (ns : List Note) (m : Meaning) → ((reads : ℕ → Bool) → GoodJudged (world names reads) Always (record { notes = ns; meaning = m })) → OverTold (over p (record { notes = ns; meaning = m }))
-over_by names p ns (meaning.Range r) g k e = subst (GoneOver ns) (some_is (λ i b. kind.Range i r.start r.stop r.step b) k e) (range_over names ns r g)
+over_by names p ns (meaning.Range r) g k e = subst (GoneOver ns) (same_Some (λ i b. kind.Range i r.start r.stop r.step b) k e) (range_over names ns r g)
 over_by names p ns (meaning.Value t) g k e = value_over names p (record { notes = ns; meaning = meaning.Value t }) g k e
 over_by names p ns (meaning.Literal q l) g k e = value_over names p (record { notes = ns; meaning = meaning.Literal q l }) g k e
 over_by names p ns (meaning.Thing t) g k e = value_over names p (record { notes = ns; meaning = meaning.Thing t }) g k e

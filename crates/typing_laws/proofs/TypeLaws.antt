@@ -1,6 +1,7 @@
--- Types of the source and the types of plain trees for them.
-use Rattle.std.proofs.Common.{◌≡◌, ◌∙◌, List, [], ◌∷◌, map, Bool, true, false, Some, refl, sym, ap, ap₂, subst}
-use Rattle.std.specs.Prelude.{◌&&◌, IsTrue}
+-- Which types of plain trees the types of the source have: those of scalars and of tuples, the same for the same type, and which are types of values.
+use Rattle.std.proofs.Common.{◌≡◌, ◌∙◌, List, [], ◌∷◌, map, true, Some, refl, sym, ap, ap₂, subst}
+use Rattle.std.specs.Prelude.{IsTrue}
+use Rattle.std.proofs.lemmas.Bool.{and_from}
 use denote.Enum.Bare.{same_true}
 use borrow.Author.Rules.{rules}
 use Rattle.awst.specs.declared.ty.Ty.{Ty}
@@ -20,7 +21,8 @@ use Rattle.source_names.specs.declared.types.SourceType.TheViews.{roll-out-Sourc
 use Rattle.source_names.specs.declared.types.SourceType.TheFolds.{ind-SourceType, fold-roll-SourceType, map-SourceType}
 use Rattle.source_names.specs.Types.{T, Ts, one, ts_of, plain, same, sames, same_type, same_scalar, typed, typed_scalar, typed_layer, type_layer, scalar_in, scalar_of, nothing_in, parts_in, tuple_parts, is_nothing}
 use Rattle.source_names.specs.Types as source
-use Rattle.source_names.specs.Equations.{typed-Scalar, typed-Tuple}
+use Rattle.source_names.specs.Equations.{typed-Scalar, typed-Nothing, typed-Tuple}
+use Rattle.typing_laws.proofs.Truths.{and_left, and_right}
 use Rattle.typing_laws.proofs.Good.{value_type, IsKeptType, EachKept}
 
 -- ---- types of one value
@@ -44,6 +46,9 @@ scalar_is s = ap type_of (typed-Scalar s) ∙ type_scalar s
 
 type_nothing : type_of awst.Nothing ≡ nothing
 type_nothing = ap type_of (sym awst.rolls-Nothing) ∙ fold-roll-Ty ValueType types.type_layer Ty-F.Nothing
+
+pub value_nothing : value_type ty.Nothing ≡ nothing
+value_nothing = ap type_of typed-Nothing ∙ type_nothing
 
 -- ---- a type is what its plain form says
 
@@ -77,14 +82,6 @@ plain_is : (t : SourceType) → IsPlain t
 plain_is = ind-SourceType IsPlain (λ x y is. subst (λ z. IsPlain (roll-SourceType z)) is (layer_is y))
 
 -- ---- types that are one
-
-and_left : (a b : Bool) → (a && b) ≡ true → a ≡ true
-and_left true b h = refl
-and_left false b h = h
-
-and_right : (a b : Bool) → (a && b) ≡ true → b ≡ true
-and_right true b h = h
-and_right false b h = cc
 
 mutual
   same_plain : (t u : T) → same t u ≡ true → t ≡ u
@@ -166,13 +163,9 @@ each_kept (t ∷ ts) h =
 pub kept_parts : (t : SourceType) (ts : List SourceType) → tuple_parts t ≡ Some ts → IsKeptType t → EachKept ts
 kept_parts t ts h k = each_kept ts (subst (λ z. IsTrue (is_kept z)) (parts_value t ts h) k)
 
-and_both : (a b : Bool) → a ≡ true → b ≡ true → (a && b) ≡ true
-and_both true b h k = k
-and_both false b h k = h
-
 all_kept : (ts : List SourceType) → EachKept ts → IsTrue (are_kept (types_of (map value_type ts)))
 all_kept [] k = refl
-all_kept (t ∷ ts) k = and_both (is_kept (value_type t)) (are_kept (types_of (map value_type ts))) k.0 (all_kept ts k.1)
+all_kept (t ∷ ts) k = and_from (is_kept (value_type t)) (are_kept (types_of (map value_type ts))) k.0 (all_kept ts k.1)
 
 pub kept_tuple : (ts : List SourceType) → EachKept ts → IsKeptType (ty.Tuple ts)
 kept_tuple ts k = subst (λ z. IsTrue (is_kept z)) (sym (tuple_value ts)) (all_kept ts k)

@@ -1,18 +1,13 @@
 -- Assignments to variables, alone and of the parts of a tuple, are sound.
 use Rattle.std.proofs.Common.{◌≡◌, ℕ, Bool, true, false, List, [], ◌∷◌, map, Option, Some, None, refl, sym, ap, ◌∙◌, subst}
 use Rattle.puya_base.specs.declared.source.Place.{Place}
-use Rattle.awst.specs.declared.expression.Expr.{Expr}
-use Rattle.awst.specs.declared.expression.ExprKind.TheOpen.{ExprKind-F, Index-F}
-use Rattle.awst.specs.declared.expression.ExprKind.TheFolds.{fold-roll-ExprKind, fold-roll-Index}
-use Rattle.awst.specs.declared.expression.ExprKind.TheVariants as value_kind
 use Rattle.awst.specs.declared.expression.Index.TheVariants as index
 use Rattle.awst.specs.declared.ty.Ty.{Ty}
 use Rattle.awst.specs.declared.statement.StmtKind.TheVariants as kind
 use Rattle.awst.specs.declared.statement.Target.{Target}
 use Rattle.awst.specs.declared.statement.Target.TheVariants as target
 use Rattle.awst.specs.Types.{tuple, types_of, type_of}
-use Rattle.awst.specs.Tree.{Ex}
-use Rattle.awst.specs.Plain.{Bare, Which, fixed as fixed_part, item, kind_layer, index_layer, expr_layer, tree_of, bare_of, which_of, typed as typed_tree, destination}
+use Rattle.awst.specs.Plain.{fixed as fixed_part, item, tree_of, typed as typed_tree, destination}
 use Rattle.awst.specs.Sound.{Names, Within, IsSound, Takes, TakeEach, TakeParts, ty_of}
 use Rattle.awst.proofs.Equations.{tree-Expr}
 use Rattle.source_names.specs.declared.types.SourceType.{SourceType}
@@ -31,9 +26,10 @@ use Rattle.expression_check.specs.Variables.{fixed, status_at}
 use Rattle.statement_check.specs.Statements.{Slots, of_typed, for_status, status_hope, type_in, assign_variable, taken, slot_targets, slot_hopes, first_type, first_part, unpack_to, unpack_typed, unpacked_parts, unpacked_value, unpack_slots}
 use Rattle.typing_laws.proofs.Good.{Always, value_type, GoodTyped, GoodOption, GoodScope, GoodValued, Settled}
 use Rattle.typing_laws.proofs.TypeLaws.{parts_value}
+use Rattle.typing_laws.proofs.Nodes.{bare-Item, which-Fixed}
 use Rattle.typing_laws.proofs.Meanings.{required_type}
 use Rattle.typing_laws.proofs.Anywhere.{anywhere, judged_value, option_given, for_status_good}
-use Rattle.typing_laws.proofs.Placing.{SoundWhen, assign_sound, drop_sound}
+use Rattle.typing_laws.proofs.StatementNodes.{SoundWhen, assign_sound, drop_sound}
 use Rattle.typing_laws.proofs.Taking.{Exists, type_fixed, EachExists, all_take, take_each}
 
 -- ---- one variable
@@ -56,16 +52,8 @@ variable_sound names within s p i e g x h =
 
 -- ---- a tuple's first part
 
-which-Fixed : (i : ℕ) → which_of (index.Fixed i) ≡ fixed_part i
-which-Fixed i = ap which_of (sym (index.rolls-Fixed i)) ∙ fold-roll-Index Bare Which Ex kind_layer index_layer expr_layer (Index-F.Fixed i)
-
-bare-Item : (e : Expr) (i : ℕ) → bare_of (value_kind.Item e (index.Fixed i)) ≡ item (tree_of e) (fixed_part i)
-bare-Item e i =
-    ap bare_of (sym (value_kind.rolls-Item e (index.Fixed i))) ∙ fold-roll-ExprKind Bare Which Ex kind_layer index_layer expr_layer (ExprKind-F.Item e (index.Fixed i))
-    ∙ ap (item (tree_of e)) (which-Fixed i)
-
 tree-first : (t : Typed) (u : Ty) → tree_of (first_part t u) ≡ typed_tree t.expr.place (type_of u) (item (tree_of t.expr) (fixed_part 0))
-tree-first t u = tree-Expr (first_part t u) ∙ ap (typed_tree t.expr.place (type_of u)) (bare-Item t.expr 0)
+tree-first t u = tree-Expr (first_part t u) ∙ ap (typed_tree t.expr.place (type_of u)) (bare-Item t.expr (index.Fixed 0) ∙ ap (item (tree_of t.expr)) (which-Fixed 0))
 
 first_sound : (names : Names) (t : Typed) (u : SourceType) (us : List SourceType) → GoodTyped (anywhere names) t → value_type t.ty ≡ tuple (types_of (map value_type (u ∷ us))) → IsSound names (tree_of (first_part t (typed u)))
 first_sound names t u us g e = subst (λ z. IsSound names z) (sym (tree-first t (typed u))) ((g.sound, tt), (types_of (map value_type (u ∷ us)), ap (λ z. z ∷ []) (g.type_is ∙ e), refl))
