@@ -13,7 +13,6 @@ use Rattle.typing_laws.proofs.Truths.{never}
 use Rattle.typing_laws.proofs.Good.{Agrees, Follows, Followed}
 use Rattle.typing_laws.proofs.Moving.{split, one_from}
 
-
 -- ---- ways
 
 -- a walk of moves that goes on is one of steps that does

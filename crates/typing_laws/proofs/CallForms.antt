@@ -108,7 +108,7 @@ called_good w p n g ks es order (Some t) r d l f h = gives_none w _ _ (λ k.
       types = given_types knows.signature.params ks es given ∙ sym (ap (map Some) made.types);
     } in
     node_good w p t _ _ (bare-Call n es order)
-      (made.sound, subst (λ z. IsCall w.names n z (types_in (trees_of es)) (value_type t)) (sym d) is_call) made.reads (knows.result t r).1)
+    (made.sound, subst (λ z. IsCall w.names n z (types_in (trees_of es)) (value_type t)) (sym d) is_call) made.reads (knows.result t r).1)
 
 pub function_good : (w : World) (p : Place) (n : ℕ) (g : Signature) (ks : List Known) → (length ks ≡ length g.params → Fresh [] (length g.params) ks)
     → Gives w (KnowsFunction w.names.functions n g × GoodKnowns w ks) (call_function p n g ks).notes (GoodMeaning w (call_function p n g ks).meaning)
@@ -117,9 +117,9 @@ function_good w p n g ks f =
     let fit = fitted (param_test g) ks in
     let own = called p n g.result fit.order in
     counted_good w P p (length ks == length g.params) (with_fitted p fit own) (λ e.
-      let l = eqb-true (length ks) (length g.params) e in
-      fitted_good w P p fit own (fitted_reading (param_test g) (λ i t. param_reading (slice_get g.params i) t) ks) (λ es h.
-        called_good w p n g ks es fit.order g.result refl (fitted_order (param_test g) ks) l (f l) h))
+    let l = eqb-true (length ks) (length g.params) e in
+    fitted_good w P p fit own (fitted_reading (param_test g) (λ i t. param_reading (slice_get g.params i) t) ks) (λ es h.
+    called_good w p n g ks es fit.order g.result refl (fitted_order (param_test g) ks) l (f l) h))
 
 -- ---- forms of the library
 
@@ -143,12 +143,12 @@ form_good w p f ks c =
     let fit = fitted (form_test f) ks in
     let own = form_result p f in
     counted_good w P p (length ks == form_count f) (with_fitted p fit own) (λ e.
-      fitted_good w P p fit own (fitted_reading (form_test f) (λ i t. passes_reading (admits_scalar (admitted f i) (scalar_of t.ty)) t) ks) (λ es h. gives_none w P _ (λ k.
-        let given = fitted_passed (form_test f) (Takes f) (λ i t u z. passes_tells (admits_scalar (admitted f i) (scalar_of t.ty)) t u z) ks es h in
-        let made = passed_parts w (Takes f) ks es given k.1 in
-        let t = results_type f.results f.result in
-        let fits = k.0.0 (known_types ks) (passed_count (Takes f) ks es given ∙ eqb-true (length ks) (form_count f) e) (all_admitted f 0 ks es given c) in
-        strict_good w p t f.prim es made.sound made.reads (subst (λ z. Fits (shape_of f.prim) z (value_type t)) (sym made.types) fits) k.0.1)))
+    fitted_good w P p fit own (fitted_reading (form_test f) (λ i t. passes_reading (admits_scalar (admitted f i) (scalar_of t.ty)) t) ks) (λ es h. gives_none w P _ (λ k.
+    let given = fitted_passed (form_test f) (Takes f) (λ i t u z. passes_tells (admits_scalar (admitted f i) (scalar_of t.ty)) t u z) ks es h in
+    let made = passed_parts w (Takes f) ks es given k.1 in
+    let t = results_type f.results f.result in
+    let fits = k.0.0 (known_types ks) (passed_count (Takes f) ks es given ∙ eqb-true (length ks) (form_count f) e) (all_admitted f 0 ks es given c) in
+    strict_good w p t f.prim es made.sound made.reads (subst (λ z. Fits (shape_of f.prim) z (value_type t)) (sym made.types) fits) k.0.1)))
 
 -- ---- `log`
 
@@ -190,8 +190,8 @@ log_good w p ks =
     let fit = fitted log_test ks in
     let own = λ (es : List Expr). node p ty.Nothing (kind.Prim prim.Log es) in
     counted_good w P p (nat_le 1 (length ks)) (with_fitted p fit own) (λ e.
-      fitted_good w P p fit own (fitted_reading log_test (λ i t. passes_reading (logged_when (scalar_of t.ty)) t) ks) (λ es h. gives_none w P _ (λ k.
-        let given = fitted_passed log_test Logs (λ i t u z. passes_tells (logged_when (scalar_of t.ty)) t u z) ks es h in
-        let made = passed_parts w Logs ks es given k in
-        strict_good w p ty.Nothing prim.Log es made.sound made.reads
-          (subst (λ z. Fits logs_all z (value_type ty.Nothing)) (sym made.types) (log_fits ks es (leb-true 1 (length ks) e) given)) nothing_result)))
+    fitted_good w P p fit own (fitted_reading log_test (λ i t. passes_reading (logged_when (scalar_of t.ty)) t) ks) (λ es h. gives_none w P _ (λ k.
+    let given = fitted_passed log_test Logs (λ i t u z. passes_tells (logged_when (scalar_of t.ty)) t u z) ks es h in
+    let made = passed_parts w Logs ks es given k in
+    strict_good w p ty.Nothing prim.Log es made.sound made.reads
+    (subst (λ z. Fits logs_all z (value_type ty.Nothing)) (sym made.types) (log_fits ks es (leb-true 1 (length ks) e) given)) nothing_result)))

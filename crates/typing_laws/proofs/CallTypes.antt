@@ -194,9 +194,9 @@ range_parts_good w a b s R h =
     let x = bound a in
     let y = bound b in
     gives_map w (GoodKnown w a × (GoodKnown w b × R)) (GoodNumber w x.typed × (GoodNumber w y.typed × GoodStep s.step)) (GoodKnown w a × GoodKnown w b × R) (GoodMeaning w (range_from x.typed y.typed s.step))
-      (x.notes ++ (y.notes ++ s.notes)) (λ k. (k.0, (k.1, k.2))) (λ k. range_from_good w x.typed y.typed s.step k.0 k.1.0 k.1.1)
-      (gives_both w (GoodKnown w a) (GoodNumber w x.typed) (GoodKnown w b × R) (GoodNumber w y.typed × GoodStep s.step) x.notes (y.notes ++ s.notes) (bound_good w a)
-        (gives_both w (GoodKnown w b) (GoodNumber w y.typed) R (GoodStep s.step) y.notes s.notes (bound_good w b) h))
+    (x.notes ++ (y.notes ++ s.notes)) (λ k. (k.0, (k.1, k.2))) (λ k. range_from_good w x.typed y.typed s.step k.0 k.1.0 k.1.1)
+    (gives_both w (GoodKnown w a) (GoodNumber w x.typed) (GoodKnown w b × R) (GoodNumber w y.typed × GoodStep s.step) x.notes (y.notes ++ s.notes) (bound_good w a)
+    (gives_both w (GoodKnown w b) (GoodNumber w y.typed) R (GoodStep s.step) y.notes s.notes (bound_good w b) h))
 
 pub range_good : (w : World) (p : Place) (ks : List Known) → Gives w (GoodKnowns w ks) (call_range p ks).notes (GoodMeaning w (call_range p ks).meaning)
 range_good w p [] = gives_broken w _ (Unit {0}) rule.P15 p (λ t. tt)
@@ -204,9 +204,9 @@ range_good w p (b ∷ []) = gives_map w (GoodKnown w b) (GoodNumber w (bound b).
 range_good w p (a ∷ b ∷ []) =
     let j = range_parts (bound a) (bound b) step_one in
     gives_map w (GoodKnown w a × GoodKnown w b × Unit {0}) (GoodMeaning w j.meaning) (GoodKnowns w (a ∷ b ∷ [])) (GoodMeaning w j.meaning) j.notes (λ k. (k.0, k.1.0, tt)) (λ k. k)
-      (range_parts_good w a b step_one (Unit {0}) (gives_none w (Unit {0}) (1 ≤ 1) (λ t. omega arith)))
+    (range_parts_good w a b step_one (Unit {0}) (gives_none w (Unit {0}) (1 ≤ 1) (λ t. omega arith)))
 range_good w p (a ∷ b ∷ s ∷ []) =
     let j = range_parts (bound a) (bound b) (step_of s) in
     gives_map w (GoodKnown w a × GoodKnown w b × Unit {0}) (GoodMeaning w j.meaning) (GoodKnowns w (a ∷ b ∷ s ∷ [])) (GoodMeaning w j.meaning) j.notes (λ k. (k.0, k.1.0, tt)) (λ k. k)
-      (range_parts_good w a b (step_of s) (Unit {0}) (step_good w (Unit {0}) s))
+    (range_parts_good w a b (step_of s) (Unit {0}) (step_good w (Unit {0}) s))
 range_good w p (a ∷ b ∷ s ∷ t ∷ ks) = gives_broken w _ (Unit {0}) rule.P15 p (λ t. tt)

@@ -116,8 +116,8 @@ given_good w c t p j g =
     let o = operand_of p j in
     let k = given_operand c t o.operand in
     gives_then w Always Always (GoodKnownWhen w (only_right t k.known)) (slot_notes t) (o.notes ++ k.notes) (gives_reading w Always Always (slot_notes t) (slot_reading t) (λ h. h))
-      (gives_map w Always (GoodKnownWhen w k.known) Always (GoodKnownWhen w (only_right t k.known)) (o.notes ++ k.notes) (λ h. h) (right_good w t k.known)
-        (gives_then w Always (GoodOperand w o.operand) (GoodKnownWhen w k.known) o.notes k.notes (operand_good w p j g) (given_operand_good w c t o.operand)))
+    (gives_map w Always (GoodKnownWhen w k.known) Always (GoodKnownWhen w (only_right t k.known)) (o.notes ++ k.notes) (λ h. h) (right_good w t k.known)
+    (gives_then w Always (GoodOperand w o.operand) (GoodKnownWhen w k.known) o.notes k.notes (operand_good w p j g) (given_operand_good w c t o.operand)))
 
 both_known_good : (w : World) (o : Option Known) (r : Option (List Known)) → GoodKnownWhen w o × GoodKnownsWhen w r → GoodKnownsWhen w (both_known o r)
 both_known_good w None r h = tt
@@ -128,7 +128,7 @@ pub and_given_good : (w : World) (g : Given) (b : Bound) → Gives w Always g.no
     → Gives w Always (and_given g b).notes (GoodKnownsWhen w (and_given g b).known)
 and_given_good w g b h k =
     gives_map w Always (GoodKnownWhen w g.known × GoodKnownsWhen w b.known) Always (GoodKnownsWhen w (both_known g.known b.known)) (g.notes ++ b.notes) (λ t. t) (both_known_good w g.known b.known)
-      (gives_pair w Always (GoodKnownWhen w g.known) (GoodKnownsWhen w b.known) g.notes b.notes h k)
+    (gives_pair w Always (GoodKnownWhen w g.known) (GoodKnownsWhen w b.known) g.notes b.notes h k)
 
 -- ---- calls
 
@@ -155,4 +155,4 @@ pub call_good : (w : World) (p : Place) (c : Callee) (b : Bound) → Gives w Alw
 call_good w p c b g k =
     let j = applied_when p c b.known in
     gives_then w (GoodCallee w c) (GoodCallee w c × GoodKnownsWhen w b.known) (GoodMeaning w j.meaning) b.notes j.notes
-      (record { reading = g.reading; holds = λ h a. (h, g.holds tt a) }) (applied_when_good w p c b.known k)
+    (record { reading = g.reading; holds = λ h a. (h, g.holds tt a) }) (applied_when_good w p c b.known k)

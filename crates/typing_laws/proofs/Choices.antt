@@ -74,7 +74,7 @@ choose_is_good w p pa pc pb h x z y g k m =
     let c = condition pc z in let a = operand_of pa x in let b = operand_of pb y in
     gives_then w _ _ _ (a.notes ++ (c.notes ++ b.notes)) (choose_values p pb h c.typed a.operand b.operand).notes
     (gives_map w Always (GoodOperand w a.operand × (GoodCondition w c.typed × GoodOperand w b.operand)) _ _ _ (λ t. t) (λ t. (t.1.0, (t.0, t.1.1)))
-      (gives_pair w _ _ _ a.notes (c.notes ++ b.notes) (operand_good w pa x g) (gives_pair w _ _ _ c.notes b.notes (condition_good w pc z k) (operand_good w pb y m))))
+    (gives_pair w _ _ _ a.notes (c.notes ++ b.notes) (operand_good w pa x g) (gives_pair w _ _ _ c.notes b.notes (condition_good w pc z k) (operand_good w pb y m))))
     (choose_values_good w p pb h c.typed a.operand b.operand)
 
 -- ---- tuples

@@ -107,8 +107,8 @@ together_known is c fs h =
     let own = class_headers is c (functions c.members) in
     subst (KnowsFunctions (map signature_of fs))
     (headers_append (placed_in_module is (module_functions is)) (placed_in_class is c (functions c.members))
-        ∙ ap (λ z. z ++ headers (placed_in_class is c (functions c.members))) ours
-        ∙ ap (λ z. signatures (entries is) is ++ z) own)
+    ∙ ap (λ z. z ++ headers (placed_in_class is c (functions c.members))) ours
+    ∙ ap (λ z. signatures (entries is) is ++ z) own)
     (headers_known (together is c) fs h (together_good is c))
 
 together_sees : (is : List Item) (c : Class) (fs : List TypedFunc) → typed_functions (together is c) ≡ Some fs → EachOf (SeesGood (map signature_of fs)) (together is c)

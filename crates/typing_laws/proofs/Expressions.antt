@@ -109,8 +109,8 @@ applied_good : (w : World) (s : Scope) (p : Place) (j : Judged) (as_ : Args) →
 applied_good w s p j as_ g h k =
     let c = calls.callee s.functions j.meaning in
     gives_then w Always (GoodCallee w c) (GoodMeaning w (called s p j as_).meaning) j.notes (called s p j as_).notes
-      (gives_map w Always (GoodMeaning w j.meaning) Always (GoodCallee w c) j.notes (λ t. t) (callee_good w s j.meaning g.known) h)
-      (call_good w p c (bound_of s j as_) k (placed s c as_))
+    (gives_map w Always (GoodMeaning w j.meaning) Always (GoodCallee w c) j.notes (λ t. t) (callee_good w s j.meaning g.known) h)
+    (call_good w p c (bound_of s j as_) k (placed s c as_))
 
 mutual
   pub judge_good : (w : World) (s : Scope) (c : Context) (e : Ex) → GoodScope w.names s → GoodJudged w Always (judge s c e)
@@ -132,7 +132,7 @@ mutual
       let b = is_bytes (based o).typed in
       let h = index_hope o.operand in
       slice_is_good w p (based o) (end s b h a) (end s b h z) (based_is_good w o (operand_good w (place_of e) (judge s freely e) (judge_good w s freely e g)))
-          (end_good_at w s b h a g) (end_good_at w s b h z g)
+      (end_good_at w s b h a g) (end_good_at w s b h z g)
   judge_good w s c (call p f as_) g =
       let j = judge s freely f in
       applied_good w s p j as_ g (judge_good w s freely f g) (arguments_good w s (calls.callee s.functions j.meaning) 0 calls.nothing_used as_ g)
@@ -166,4 +166,4 @@ mutual
       let t = calls.slot c i u k (place_of e) in
       let j = judge s (context true (calls.slot_hope c t)) e in
       and_given_good w (calls.given c t (place_of e) j) (arguments s c (suc i) (calls.use_of u t k) as_)
-          (given_good w c t (place_of e) j (judge_good w s (context true (calls.slot_hope c t)) e g)) (arguments_good w s c (suc i) (calls.use_of u t k) as_ g)
+      (given_good w c t (place_of e) j (judge_good w s (context true (calls.slot_hope c t)) e g)) (arguments_good w s c (suc i) (calls.use_of u t k) as_ g)

@@ -86,70 +86,70 @@ same_more a b as_ bs h k = ap (λ z. z ∷ as_) h ∙ ap (λ z. b ∷ z) k
 pub of_number : (p : Primitive) (s : Scalar) → shape_of p ≡ takes (uint64 ∷ []) (scalar_type s) → GoodMember (member.Form (form_of p admits.Number admits.Nothing admits.Nothing admits.Nothing 1 s))
 of_number p s e = (
   one_type (Given (form_of p admits.Number admits.Nothing admits.Nothing admits.Nothing 1 s) (value_type (ty.Scalar s)))
-    (λ t a. rw e (same_one (value_type t) uint64 (a_number t a.0), scalar_is s)),
+      (λ t a. rw e (same_one (value_type t) uint64 (a_number t a.0), scalar_is s)),
   λ h. kept_scalar s,
 )
 
 pub of_bytes : (p : Primitive) (s : Scalar) → shape_of p ≡ takes (bytes ∷ []) (scalar_type s) → GoodMember (member.Form (form_of p admits.Bytes admits.Nothing admits.Nothing admits.Nothing 1 s))
 of_bytes p s e = (
   one_type (Given (form_of p admits.Bytes admits.Nothing admits.Nothing admits.Nothing 1 s) (value_type (ty.Scalar s)))
-    (λ t a. rw e (same_one (value_type t) bytes (some_bytes t a.0), scalar_is s)),
+      (λ t a. rw e (same_one (value_type t) bytes (some_bytes t a.0), scalar_is s)),
   λ h. kept_scalar s,
 )
 
 pub of_numbers : (p : Primitive) (s : Scalar) → shape_of p ≡ takes (uint64 ∷ uint64 ∷ []) (scalar_type s) → GoodMember (member.Form (form_of p admits.Number admits.Number admits.Nothing admits.Nothing 1 s))
 of_numbers p s e = (
   two_types (Given (form_of p admits.Number admits.Number admits.Nothing admits.Nothing 1 s) (value_type (ty.Scalar s)))
-    (λ t u a. rw e (same_more (value_type t) uint64 (value_type u ∷ []) (uint64 ∷ []) (a_number t a.0) (same_one (value_type u) uint64 (a_number u a.1.0)), scalar_is s)),
+      (λ t u a. rw e (same_more (value_type t) uint64 (value_type u ∷ []) (uint64 ∷ []) (a_number t a.0) (same_one (value_type u) uint64 (a_number u a.1.0)), scalar_is s)),
   λ h. kept_scalar s,
 )
 
 pub of_place : (p : Primitive) (s : Scalar) → shape_of p ≡ takes (bytes ∷ uint64 ∷ []) (scalar_type s) → GoodMember (member.Form (form_of p admits.Bytes admits.Number admits.Nothing admits.Nothing 1 s))
 of_place p s e = (
   two_types (Given (form_of p admits.Bytes admits.Number admits.Nothing admits.Nothing 1 s) (value_type (ty.Scalar s)))
-    (λ t u a. rw e (same_more (value_type t) bytes (value_type u ∷ []) (uint64 ∷ []) (some_bytes t a.0) (same_one (value_type u) uint64 (a_number u a.1.0)), scalar_is s)),
+      (λ t u a. rw e (same_more (value_type t) bytes (value_type u ∷ []) (uint64 ∷ []) (some_bytes t a.0) (same_one (value_type u) uint64 (a_number u a.1.0)), scalar_is s)),
   λ h. kept_scalar s,
 )
 
 pub of_two_bytes : (p : Primitive) (s : Scalar) → shape_of p ≡ takes (bytes ∷ bytes ∷ []) (scalar_type s) → GoodMember (member.Form (form_of p admits.Bytes admits.Bytes admits.Nothing admits.Nothing 1 s))
 of_two_bytes p s e = (
   two_types (Given (form_of p admits.Bytes admits.Bytes admits.Nothing admits.Nothing 1 s) (value_type (ty.Scalar s)))
-    (λ t u a. rw e (same_more (value_type t) bytes (value_type u ∷ []) (bytes ∷ []) (some_bytes t a.0) (same_one (value_type u) bytes (some_bytes u a.1.0)), scalar_is s)),
+      (λ t u a. rw e (same_more (value_type t) bytes (value_type u ∷ []) (bytes ∷ []) (some_bytes t a.0) (same_one (value_type u) bytes (some_bytes u a.1.0)), scalar_is s)),
   λ h. kept_scalar s,
 )
 
 pub of_three_numbers : (p : Primitive) (s : Scalar) → shape_of p ≡ takes (uint64 ∷ uint64 ∷ uint64 ∷ []) (scalar_type s) → GoodMember (member.Form (form_of p admits.Number admits.Number admits.Number admits.Nothing 1 s))
 of_three_numbers p s e = (
   three_types (Given (form_of p admits.Number admits.Number admits.Number admits.Nothing 1 s) (value_type (ty.Scalar s)))
-    (λ t u v a. rw e (same_more (value_type t) uint64 (value_type u ∷ value_type v ∷ []) (uint64 ∷ uint64 ∷ []) (a_number t a.0) (same_more (value_type u) uint64 (value_type v ∷ []) (uint64 ∷ []) (a_number u a.1.0) (same_one (value_type v) uint64 (a_number v a.1.1.0))), scalar_is s)),
+      (λ t u v a. rw e (same_more (value_type t) uint64 (value_type u ∷ value_type v ∷ []) (uint64 ∷ uint64 ∷ []) (a_number t a.0) (same_more (value_type u) uint64 (value_type v ∷ []) (uint64 ∷ []) (a_number u a.1.0) (same_one (value_type v) uint64 (a_number v a.1.1.0))), scalar_is s)),
   λ h. kept_scalar s,
 )
 
 pub of_places : (p : Primitive) (s : Scalar) → shape_of p ≡ takes (bytes ∷ uint64 ∷ uint64 ∷ []) (scalar_type s) → GoodMember (member.Form (form_of p admits.Bytes admits.Number admits.Number admits.Nothing 1 s))
 of_places p s e = (
   three_types (Given (form_of p admits.Bytes admits.Number admits.Number admits.Nothing 1 s) (value_type (ty.Scalar s)))
-    (λ t u v a. rw e (same_more (value_type t) bytes (value_type u ∷ value_type v ∷ []) (uint64 ∷ uint64 ∷ []) (some_bytes t a.0) (same_more (value_type u) uint64 (value_type v ∷ []) (uint64 ∷ []) (a_number u a.1.0) (same_one (value_type v) uint64 (a_number v a.1.1.0))), scalar_is s)),
+      (λ t u v a. rw e (same_more (value_type t) bytes (value_type u ∷ value_type v ∷ []) (uint64 ∷ uint64 ∷ []) (some_bytes t a.0) (same_more (value_type u) uint64 (value_type v ∷ []) (uint64 ∷ []) (a_number u a.1.0) (same_one (value_type v) uint64 (a_number v a.1.1.0))), scalar_is s)),
   λ h. kept_scalar s,
 )
 
 pub of_replaced : (p : Primitive) (s : Scalar) → shape_of p ≡ takes (bytes ∷ uint64 ∷ bytes ∷ []) (scalar_type s) → GoodMember (member.Form (form_of p admits.Bytes admits.Number admits.Bytes admits.Nothing 1 s))
 of_replaced p s e = (
   three_types (Given (form_of p admits.Bytes admits.Number admits.Bytes admits.Nothing 1 s) (value_type (ty.Scalar s)))
-    (λ t u v a. rw e (same_more (value_type t) bytes (value_type u ∷ value_type v ∷ []) (uint64 ∷ bytes ∷ []) (some_bytes t a.0) (same_more (value_type u) uint64 (value_type v ∷ []) (bytes ∷ []) (a_number u a.1.0) (same_one (value_type v) bytes (some_bytes v a.1.1.0))), scalar_is s)),
+      (λ t u v a. rw e (same_more (value_type t) bytes (value_type u ∷ value_type v ∷ []) (uint64 ∷ bytes ∷ []) (some_bytes t a.0) (same_more (value_type u) uint64 (value_type v ∷ []) (bytes ∷ []) (a_number u a.1.0) (same_one (value_type v) bytes (some_bytes v a.1.1.0))), scalar_is s)),
   λ h. kept_scalar s,
 )
 
 pub of_measured : (p : Primitive) → shape_of p ≡ measures → GoodMember (member.Form (form_of p admits.Either admits.Nothing admits.Nothing admits.Nothing 1 scalar.UInt64))
 of_measured p e = (
   one_type (Given (form_of p admits.Either admits.Nothing admits.Nothing admits.Nothing 1 scalar.UInt64) (value_type (ty.Scalar scalar.UInt64)))
-    (λ t a. rw e (value_type t, refl, either t a.0, scalar_is scalar.UInt64)),
+      (λ t a. rw e (value_type t, refl, either t a.0, scalar_is scalar.UInt64)),
   λ h. kept_scalar scalar.UInt64,
 )
 
 pub of_bit : (p : Primitive) → shape_of p ≡ reads_bit → GoodMember (member.Form (form_of p admits.Either admits.Number admits.Nothing admits.Nothing 1 scalar.UInt64))
 of_bit p e = (
   two_types (Given (form_of p admits.Either admits.Number admits.Nothing admits.Nothing 1 scalar.UInt64) (value_type (ty.Scalar scalar.UInt64)))
-    (λ t u a. rw e (value_type t, ap (λ z. value_type t ∷ z ∷ []) (a_number u a.1.0), either t a.0, scalar_is scalar.UInt64)),
+      (λ t u a. rw e (value_type t, ap (λ z. value_type t ∷ z ∷ []) (a_number u a.1.0), either t a.0, scalar_is scalar.UInt64)),
   λ h. kept_scalar scalar.UInt64,
 )
 
@@ -164,13 +164,13 @@ four_words_is = tuple_value (ty.Scalar scalar.UInt64 ∷ ty.Scalar scalar.UInt64
 pub of_numbers_two : (p : Primitive) → shape_of p ≡ takes (uint64 ∷ uint64 ∷ []) two_words → GoodMember (member.Form (form_of p admits.Number admits.Number admits.Nothing admits.Nothing 2 scalar.UInt64))
 of_numbers_two p e = (
   two_types (Given (form_of p admits.Number admits.Number admits.Nothing admits.Nothing 2 scalar.UInt64) (value_type (results_type 2 scalar.UInt64)))
-    (λ t u a. rw e (same_more (value_type t) uint64 (value_type u ∷ []) (uint64 ∷ []) (a_number t a.0) (same_one (value_type u) uint64 (a_number u a.1.0)), two_words_is)),
+      (λ t u a. rw e (same_more (value_type t) uint64 (value_type u ∷ []) (uint64 ∷ []) (a_number t a.0) (same_one (value_type u) uint64 (a_number u a.1.0)), two_words_is)),
   λ h. kept_tuple (ty.Scalar scalar.UInt64 ∷ ty.Scalar scalar.UInt64 ∷ []) (kept_scalar scalar.UInt64, (kept_scalar scalar.UInt64, tt)),
 )
 
 pub of_numbers_four : (p : Primitive) → shape_of p ≡ takes (uint64 ∷ uint64 ∷ uint64 ∷ uint64 ∷ []) four_words → GoodMember (member.Form (form_of p admits.Number admits.Number admits.Number admits.Number 4 scalar.UInt64))
 of_numbers_four p e = (
   four_types (Given (form_of p admits.Number admits.Number admits.Number admits.Number 4 scalar.UInt64) (value_type (results_type 4 scalar.UInt64)))
-    (λ t u v x a. rw e (same_more (value_type t) uint64 (value_type u ∷ value_type v ∷ value_type x ∷ []) (uint64 ∷ uint64 ∷ uint64 ∷ []) (a_number t a.0) (same_more (value_type u) uint64 (value_type v ∷ value_type x ∷ []) (uint64 ∷ uint64 ∷ []) (a_number u a.1.0) (same_more (value_type v) uint64 (value_type x ∷ []) (uint64 ∷ []) (a_number v a.1.1.0) (same_one (value_type x) uint64 (a_number x a.1.1.1.0)))), four_words_is)),
+      (λ t u v x a. rw e (same_more (value_type t) uint64 (value_type u ∷ value_type v ∷ value_type x ∷ []) (uint64 ∷ uint64 ∷ uint64 ∷ []) (a_number t a.0) (same_more (value_type u) uint64 (value_type v ∷ value_type x ∷ []) (uint64 ∷ uint64 ∷ []) (a_number u a.1.0) (same_more (value_type v) uint64 (value_type x ∷ []) (uint64 ∷ []) (a_number v a.1.1.0) (same_one (value_type x) uint64 (a_number x a.1.1.1.0)))), four_words_is)),
   λ h. kept_tuple (ty.Scalar scalar.UInt64 ∷ ty.Scalar scalar.UInt64 ∷ ty.Scalar scalar.UInt64 ∷ ty.Scalar scalar.UInt64 ∷ []) (kept_scalar scalar.UInt64, (kept_scalar scalar.UInt64, (kept_scalar scalar.UInt64, (kept_scalar scalar.UInt64, tt)))),
 )

@@ -1,5 +1,5 @@
 -- Typed functions are sound, and have the types of their signatures.
-use Rattle.std.proofs.Common.{◌≡◌, ◌⊎◌, inl, inr, true, take-append-drop, ℕ, zero, suc, ◌<◌, ◌≤◌, arith, length-append, length-take-le, length, [], ◌∷◌,  take, drop, map, Bool, false, List, ◌++◌, Option, Some, None, refl, sym, ◌∙◌, ap, subst}
+use Rattle.std.proofs.Common.{◌≡◌, ◌⊎◌, inl, inr, true, take-append-drop, ℕ, zero, suc, ◌<◌, ◌≤◌, arith, length-append, length-take-le, length, [], ◌∷◌, take, drop, map, Bool, false, List, ◌++◌, Option, Some, None, refl, sym, ◌∙◌, ap, subst}
 use Rattle.std.specs.Prelude.{slice_get, option_map, nat_lt, IsTrue}
 use Rattle.std.specs.List.{All}
 use Rattle.std.proofs.lemmas.Option.{none-some, same_Some, slice_get-map, slice_get_within}
@@ -75,7 +75,6 @@ pub typing : (s : Scope) (inside : Bool) (g : SourceSignature) (f : Func) (tf : 
 typing s inside g f tf h = typing_by s inside g f tf g.result (local_types (body s inside g f).locals) (body s inside g f).typed refl refl refl h
 
 -- ---- it has a type for each parameter
-
 
 body_later : (s : Scope) (inside : Bool) (g : SourceSignature) (f : Func) → Later (first_locals inside g f) (body s inside g f).locals
 body_later s inside g f = checks_later s g.result (first_locals inside g f) (block_of f.body)
@@ -179,9 +178,9 @@ sound_parts functions s inside g f t ts ss e h d k m q =
       body = sound_body names s (record { result = value_type t; in_loop = false; in_entry = false }) t g.result e good refl (m.result t e) ls f.body ss first known (body_quiet s inside g f q) d;
       assigned = λ x p w. let r = follow x (nat_lt x (length g.params)) false (Paths.at_read p) w in read_broken s inside g f q x p r.way r.agrees r.walk;
       returns = λ b x r u w.
-        let z = from_anywhere x ms r u Paths.goes_on w (nat_lt x (length g.params)) in
-        let y = follow x (nat_lt x (length g.params)) z.state Paths.goes_on z.walk in
-        end_broken s inside g f f.name.place (end_there g f t e b) q x z.state y.way y.agrees y.walk;
+          let z = from_anywhere x ms r u Paths.goes_on w (nat_lt x (length g.params)) in
+          let y = follow x (nat_lt x (length g.params)) z.state Paths.goes_on z.walk in
+          end_broken s inside g f f.name.place (end_there g f t e b) q x z.state y.way y.agrees y.walk;
     }
 
 sound_as : (functions : List Signature) (s : Scope) (inside : Bool) (g : SourceSignature) (f : Func) (t : SourceType) (ts : List Ty) (ss : List Stmt)

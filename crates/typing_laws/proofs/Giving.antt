@@ -8,7 +8,7 @@ use Rattle.path_rules.specs.declared.note.Note.{Note}
 use Rattle.path_rules.specs.declared.note.Note.TheVariants as note
 use Rattle.path_rules.specs.Steps.{Step}
 use Rattle.path_rules.proofs.Equations.{step-Broken, step-Read}
-use Rattle.meaning_rules.specs.Meanings.{broken_all} 
+use Rattle.meaning_rules.specs.Meanings.{broken_all}
 use Rattle.meaning_rules.specs.Meanings as meanings
 use Rattle.typing_laws.proofs.Good.{Each, IsReading, IsAllowed, Reading, Allows, World, Gives}
 

@@ -101,7 +101,7 @@ pub arm_follow : (test : Steps) (always : Bool) (body rest : Steps) (c a b : Mov
     → IfFollows (before (an_arm test always body) rest) (joined c (forked always a b))
 arm_follow test always body rest c a b f g h =
     let whole : IfFollows (before test (a_step (steps.arm always body) rest)) (joined c (forked always a b)) = λ x s u w k.
-      if_joined_by x test (a_step (steps.arm always body) rest) c (forked always a b) s u w f (fork_follow x always body rest a b g h) (split x c (forked always a b) s w u k) in
+    if_joined_by x test (a_step (steps.arm always body) rest) c (forked always a b) s u w f (fork_follow x always body rest a b g h) (split x c (forked always a b) s w u k) in
     subst (λ z. IfFollows z (joined c (forked always a b))) (sym (before-before test (steps.one (steps.arm always body)) rest)) whole
 
 pub choice_follow : (fs : Steps) (ms : Moves) → IfFollows fs ms → Follows (steps.one (steps.choice fs)) ms
@@ -145,7 +145,7 @@ module _ (test body : Steps) (c b : Moves) (f : Follows test c) (g : Follows bod
         way = Walks.at r.place;
         agrees = tt;
         walk = Walks.last_turn (turn_steps test ends body) s (Walks.at r.place) (Walks.at r.place) t
-          (stop_before x test s (Walks.at r.place) t (subst (λ z. Walks.Walks x test s z t) r.is k.walk) (before (an_end ends) body) refl) refl;
+            (stop_before x test s (Walks.at r.place) t (subst (λ z. Walks.Walks x test s z t) r.is k.walk) (before (an_end ends) body) refl) refl;
       }
 
   -- a turn that ends with the body so
@@ -186,7 +186,7 @@ over_turn test body c f x s t h =
       way = out goes;
       agrees = tt;
       walk = Walks.last_turn (turn_steps test true body) s (out leaves) (out goes) t
-        (on_before x test (before (an_end true) body) s t (out leaves) t inner (Walks.stopped steps.may_end body t (out leaves) t refl (Walks.ends t))) refl;
+          (on_before x test (before (an_end true) body) s t (out leaves) t inner (Walks.stopped steps.may_end body t (out leaves) t refl (Walks.ends t))) refl;
     }
 
 turning_follow : (test body : Steps) (x : ℕ) (c : Moves) (ends : Bool) (b : Moves) (s t : Bool) (w : Way) → Paths.Turning x c ends b s w t → Follows test c → Follows body b → MovesRead (λ y. true) c → TurnFollowed x (turn_steps test ends body) s w t

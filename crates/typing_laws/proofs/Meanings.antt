@@ -116,7 +116,7 @@ required_type t v u h = required_is t v.typed u h
 truth_good : (w : World) (t : Typed) (s : Scalar) → scalar_of t.ty ≡ Some s → IsTrue (shapes.has_truth (scalar_type s)) → GoodTyped w t × IsKeptType t.ty → GoodCondition w (Some (truth_of t))
 truth_good w t s e h g =
     let fits : shapes.Fits shapes.tells_truth (value_type t.ty ∷ []) (value_type (ty.Scalar scalar.Bool)) =
-        (value_type t.ty, refl, subst (λ z. IsTrue (shapes.has_truth z)) (sym (scalar_value_is t.ty s e)) h, scalar_is scalar.Bool) in
+    (value_type t.ty, refl, subst (λ z. IsTrue (shapes.has_truth z)) (sym (scalar_value_is t.ty s e)) h, scalar_is scalar.Bool) in
     let n = prim_good w t.expr.place (ty.Scalar scalar.Bool) prim.Truth (t ∷ []) (g, tt) fits (scalar_kept scalar.Bool) in
     (n, n.type_is ∙ scalar_is scalar.Bool)
 

@@ -18,68 +18,169 @@ GoodRows [] = Unit {0}
 GoodRows (e ∷ es) = GoodMember e.1 × GoodRows es
 
 operations_good : GoodRows operations
-operations_good =
-    (of_numbers_two prim.OpAddw refl,
-    (of_numbers_two prim.OpMulw refl,
-    (of_measured prim.OpBitlen refl,
-    (of_number prim.OpItob scalar.Bytes refl,
-    (of_number prim.OpSqrt scalar.UInt64 refl,
-    (of_bytes prim.OpSha256 scalar.Bytes refl,
-    (of_bytes prim.OpSha512Of256 scalar.Bytes refl,
-    (of_bytes prim.OpBtoi scalar.UInt64 refl,
-    (of_number prim.OpBzero scalar.Bytes refl,
-    (of_two_bytes prim.OpConcat scalar.Bytes refl,
-    (of_numbers_four prim.OpDivmodw refl,
-    (of_three_numbers prim.OpDivw scalar.UInt64 refl,
-    (of_numbers prim.OpExp scalar.UInt64 refl,
-    (of_places prim.OpExtract scalar.Bytes refl,
-    (of_place prim.OpExtractUint16 scalar.UInt64 refl,
-    (of_place prim.OpExtractUint32 scalar.UInt64 refl,
-    (of_place prim.OpExtractUint64 scalar.UInt64 refl,
-    (of_bit prim.OpGetbit refl,
-    (of_place prim.OpGetbyte scalar.UInt64 refl,
-    (of_replaced prim.OpReplace scalar.Bytes refl,
-    (of_places prim.OpSetbitBytes scalar.Bytes refl,
-    (of_three_numbers prim.OpSetbitUint64 scalar.UInt64 refl,
-    (of_places prim.OpSetbyte scalar.Bytes refl,
-    (of_numbers prim.OpShl scalar.UInt64 refl,
-    (of_numbers prim.OpShr scalar.UInt64 refl,
-    (of_places prim.OpSubstring scalar.Bytes refl,
-    (tt,
-    (tt,
-    (tt,
-    (tt,
-    (tt,
-    (tt,
-    (tt,
-    (tt,
-    (tt,
-    (tt,
-    (tt,
-    (tt,
-    (tt,
-    (tt,
-    tt))))))))))))))))))))))))))))))))))))))))
+operations_good = (
+  of_numbers_two prim.OpAddw refl,
+  (
+    of_numbers_two prim.OpMulw refl,
+    (
+      of_measured prim.OpBitlen refl,
+      (
+        of_number prim.OpItob scalar.Bytes refl,
+        (
+          of_number prim.OpSqrt scalar.UInt64 refl,
+          (
+            of_bytes prim.OpSha256 scalar.Bytes refl,
+            (
+              of_bytes prim.OpSha512Of256 scalar.Bytes refl,
+              (
+                of_bytes prim.OpBtoi scalar.UInt64 refl,
+                (
+                  of_number prim.OpBzero scalar.Bytes refl,
+                  (
+                    of_two_bytes prim.OpConcat scalar.Bytes refl,
+                    (
+                      of_numbers_four prim.OpDivmodw refl,
+                      (
+                        of_three_numbers prim.OpDivw scalar.UInt64 refl,
+                        (
+                          of_numbers prim.OpExp scalar.UInt64 refl,
+                          (
+                            of_places prim.OpExtract scalar.Bytes refl,
+                            (
+                              of_place prim.OpExtractUint16 scalar.UInt64 refl,
+                              (
+                                of_place prim.OpExtractUint32 scalar.UInt64 refl,
+                                (
+                                  of_place prim.OpExtractUint64 scalar.UInt64 refl,
+                                  (
+                                    of_bit prim.OpGetbit refl,
+                                    (
+                                      of_place prim.OpGetbyte scalar.UInt64 refl,
+                                      (
+                                        of_replaced prim.OpReplace scalar.Bytes refl,
+                                        (
+                                          of_places prim.OpSetbitBytes scalar.Bytes refl,
+                                          (
+                                            of_three_numbers prim.OpSetbitUint64 scalar.UInt64 refl,
+                                            (
+                                              of_places prim.OpSetbyte scalar.Bytes refl,
+                                              (
+                                                of_numbers prim.OpShl scalar.UInt64 refl,
+                                                (
+                                                  of_numbers prim.OpShr scalar.UInt64 refl,
+                                                  (
+                                                    of_places prim.OpSubstring scalar.Bytes refl,
+                                                    (
+                                                      tt,
+                                                      (
+                                                        tt,
+                                                        (
+                                                          tt,
+                                                          (
+                                                            tt,
+                                                            (
+                                                              tt,
+                                                              (
+                                                                tt,
+                                                                (
+                                                                  tt,
+                                                                  (
+                                                                    tt,
+                                                                    (
+                                                                      tt,
+                                                                      (
+                                                                        tt,
+                                                                        (
+                                                                          tt,
+                                                                          (
+                                                                            tt,
+                                                                            (
+                                                                              tt,
+                                                                              (
+                                                                                tt,
+                                                                                tt,
+                                                                              ),
+                                                                            ),
+                                                                          ),
+                                                                        ),
+                                                                      ),
+                                                                    ),
+                                                                  ),
+                                                                ),
+                                                              ),
+                                                            ),
+                                                          ),
+                                                        ),
+                                                      ),
+                                                    ),
+                                                  ),
+                                                ),
+                                              ),
+                                            ),
+                                          ),
+                                        ),
+                                      ),
+                                    ),
+                                  ),
+                                ),
+                              ),
+                            ),
+                          ),
+                        ),
+                      ),
+                    ),
+                  ),
+                ),
+              ),
+            ),
+          ),
+        ),
+      ),
+    ),
+  ),
+)
 
 transaction_good : GoodRows transaction
-transaction_good =
-    ((refl, scalar_is scalar.Account),
-    ((refl, scalar_is scalar.UInt64),
-    ((refl, scalar_is scalar.Bytes),
-    ((refl, scalar_is scalar.UInt64),
-    ((refl, scalar_is scalar.UInt64),
-    ((refl, refl),
-    (of_number prim.TxnApplicationArgs scalar.Bytes refl,
-    tt)))))))
+transaction_good = (
+  (refl, scalar_is scalar.Account),
+  (
+    (refl, scalar_is scalar.UInt64),
+    (
+      (refl, scalar_is scalar.Bytes),
+      (
+        (refl, scalar_is scalar.UInt64),
+        (
+          (refl, scalar_is scalar.UInt64),
+          (
+            (refl, refl),
+            (
+              of_number prim.TxnApplicationArgs scalar.Bytes refl,
+              tt,
+            ),
+          ),
+        ),
+      ),
+    ),
+  ),
+)
 
 globals_good : GoodRows globals
-globals_good =
-    ((refl, scalar_is scalar.Account),
-    ((refl, scalar_is scalar.Account),
-    ((refl, scalar_is scalar.UInt64),
-    ((refl, scalar_is scalar.UInt64),
-    ((refl, refl),
-    tt)))))
+globals_good = (
+  (refl, scalar_is scalar.Account),
+  (
+    (refl, scalar_is scalar.Account),
+    (
+      (refl, scalar_is scalar.UInt64),
+      (
+        (refl, scalar_is scalar.UInt64),
+        (
+          (refl, refl),
+          tt,
+        ),
+      ),
+    ),
+  ),
+)
 
 rows_good : (r : Row) → GoodRows (members_of r)
 rows_good row.Op = operations_good

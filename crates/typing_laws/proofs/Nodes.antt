@@ -166,8 +166,13 @@ kept_in (u ∷ ts) (suc i) t k h = kept_in ts i t k.1 h
 -- a part of a tuple
 pub item_good : (w : World) (p : Place) (b : Typed) (ts : List SourceType) (i : ℕ) (t : SourceType) → GoodTyped w b → IsKeptType b.ty → tuple_parts b.ty ≡ Some ts → slice_get ts i ≡ Some t → GoodTyped w (a_node p t (kind.Item b.expr (index.Fixed i)))
 item_good w p b ts i t g k h e =
-    node_good w p _ _ _ (bare-Item b.expr (index.Fixed i) ∙ ap (plain.item (tree_of b.expr)) (which-Fixed i))
-    ((g.sound, tt), (types_of (map value_type ts), ap (λ z. z ∷ []) (g.type_is ∙ parts_value b.ty ts h),
-      ap (λ z. slice_get z i) (listed_types (map value_type ts)) ∙ slice_get-map value_type ts i ∙ ap (option_map value_type) e))
+    node_good w p _ _ _ (bare-Item b.expr (index.Fixed i) ∙ ap (plain.item (tree_of b.expr)) (which-Fixed i)) (
+      (g.sound, tt),
+      (
+        types_of (map value_type ts),
+        ap (λ z. z ∷ []) (g.type_is ∙ parts_value b.ty ts h),
+        ap (λ z. slice_get z i) (listed_types (map value_type ts)) ∙ slice_get-map value_type ts i ∙ ap (option_map value_type) e,
+      ),
+    )
     (g.reads, tt)
     (λ z. kept_in ts i t (kept_parts b.ty ts h k) e)

@@ -217,7 +217,7 @@ fresh_step g i u k (wrong q p) o first rest f r e n l more = absurd (none-some f
 fresh_step g i u k beyond o first rest f r e n l more = absurd (omega (arith, f, l))
 fresh_step g i u k (at j) o first rest f r e n l more =
     subst (λ m. (calls.is_used m u.numbers ≡ false) × (m < length g.params) × Fresh (m ∷ u.numbers) (length g.params) rest) (sym n)
-      (f.0, f.1, more (λ h. let both = neither u.keyword (calls.is_keyword k) h in let same = f.2 both.1 in (omega (arith, same), below_more i u.numbers (r both.0))) (omega (arith, l)))
+    (f.0, f.1, more (λ h. let both = neither u.keyword (calls.is_keyword k) h in let same = f.2 both.1 in (omega (arith, same), below_more i u.numbers (r both.0))) (omega (arith, l)))
 
 pub arguments_fresh : (s : Scope) (n : ℕ) (g : Signature) (i : ℕ) (u : Used) (as_ : Args) (ks : List Known)
     → (arguments s (calls.a_function n g) i u as_).known ≡ Some ks → Ready i u → i + length ks ≤ length g.params → Fresh u.numbers (length g.params) ks
@@ -228,9 +228,9 @@ arguments_fresh s n g i u (an_arg k x as_) ks e r l =
     let j = judge s (context true (calls.slot_hope c t)) x in
     let d = split (calls.given c t (place_of x) j).known (arguments s c (suc i) (calls.use_of u t k) as_).known ks e in
     subst (Fresh u.numbers (length g.params)) d.all
-      (fresh_step g i u k t (calls.given_operand c t (operand_of (place_of x) j).operand).known d.first d.rest (slot_fits g i u k (place_of x) r) r d.first_is
-        (right_number c t (place_of x) j d.first d.first_is) (subst (λ z. i + length z ≤ length g.params) (sym d.all) l)
-        (arguments_fresh s n g (suc i) (calls.use_of u t k) as_ d.rest d.rest_is))
+    (fresh_step g i u k t (calls.given_operand c t (operand_of (place_of x) j).operand).known d.first d.rest (slot_fits g i u k (place_of x) r) r d.first_is
+    (right_number c t (place_of x) j d.first d.first_is) (subst (λ z. i + length z ≤ length g.params) (sym d.all) l)
+    (arguments_fresh s n g (suc i) (calls.use_of u t k) as_ d.rest d.rest_is))
 
 -- ---- arguments of a form
 
@@ -245,6 +245,7 @@ arguments_counting s f i u (an_arg k x as_) ks e =
     let t = calls.library_slot i k in
     let j = judge s (context true (calls.slot_hope c t)) x in
     let d = split (calls.given c t (place_of x) j).known (arguments s c (suc i) (calls.use_of u t k) as_).known ks e in
-    subst (Counting i) d.all
-      (counting_step i k (calls.given_operand c t (operand_of (place_of x) j).operand).known d.first d.first_is (right_number c t (place_of x) j d.first d.first_is),
-       arguments_counting s f (suc i) (calls.use_of u t k) as_ d.rest d.rest_is)
+    subst (Counting i) d.all (
+      counting_step i k (calls.given_operand c t (operand_of (place_of x) j).operand).known d.first d.first_is (right_number c t (place_of x) j d.first d.first_is),
+      arguments_counting s f (suc i) (calls.use_of u t k) as_ d.rest d.rest_is,
+    )

@@ -116,7 +116,7 @@ headers_known ps fs h k n g e =
     let f = function_at ps fs h n r.placed r.at in
     subst (λ z. KnowsFunction (map signature_of fs) n z) r.is
     (function_known (map signature_of fs) n r.placed.scope r.placed.inside r.placed.signature r.placed.function f.function f.is
-        (each_of_at HasGoodHeader ps k n r.placed r.at) (slice_get-map signature_of fs n ∙ ap (option_map signature_of) f.at))
+    (each_of_at HasGoodHeader ps k n r.placed r.at) (slice_get-map signature_of fs n ∙ ap (option_map signature_of) f.at))
 
 -- ---- they are sound
 
@@ -132,4 +132,4 @@ functions_sound functions ps fs h k s q n d low =
     let f = get_or fs n d in
     let r = placed_at ps fs h n f (slice_get-get_or fs n d low) in
     function_sound functions r.placed.scope r.placed.inside r.placed.signature r.placed.function f r.is
-        (each_of_at (SeesGood functions) ps s n r.placed r.at) (each_of_at HasGoodHeader ps k n r.placed r.at) (each_of_at IsQuiet ps q n r.placed r.at)
+    (each_of_at (SeesGood functions) ps s n r.placed r.at) (each_of_at HasGoodHeader ps k n r.placed r.at) (each_of_at IsQuiet ps q n r.placed r.at)

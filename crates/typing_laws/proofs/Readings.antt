@@ -150,11 +150,11 @@ stops_or_not x (n ∷ ns) h = elim (step_by x (step_of n) h.0) [
   | inl k ↦ elim (stops_or_not x ns h.1) [
     | inl l ↦ inl (k, l)
     | inr l ↦ inr (record {
-        place = l.place;
-        walk = λ s. Walks.went_on (step_of n) (steps_of ns) s s (Walks.at l.place) s (step_passed x (step_of n) s h.0) (l.walk s);
-      })
-    ]
+      place = l.place;
+      walk = λ s. Walks.went_on (step_of n) (steps_of ns) s s (Walks.at l.place) s (step_passed x (step_of n) s h.0) (l.walk s);
+    })
   ]
+]
 
 -- ---- notes on expressions, and the moves of these
 

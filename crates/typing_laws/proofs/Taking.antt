@@ -128,10 +128,11 @@ all_take names ls [] [] h e k = tt
 all_take names ls [] (t ∷ ts) h e k = never h
 all_take names ls (i ∷ is) [] h e k = never h
 all_take names ls (None ∷ is) (t ∷ ts) h e k = all_take names ls is ts h e k
-all_take names ls (Some i ∷ is) (t ∷ ts) h e k =
-    (type_fixed names ls i t e.0 (settled_before names (fixed ls i (Some t)) (taken (fixed ls i (Some t)) is ts).locals (taken_later (fixed ls i (Some t)) is ts) k)
-    (λ u z. takes_by (status_at ls i) t u (first_part (status_takes (status_at ls i) t) (taken (fixed ls i (Some t)) is ts).all h) z),
-    all_take names (fixed ls i (Some t)) is ts (second_part (status_takes (status_at ls i) t) (taken (fixed ls i (Some t)) is ts).all h) (each_later ls (fixed ls i (Some t)) is (fixed_later ls i (Some t)) e.1) k)
+all_take names ls (Some i ∷ is) (t ∷ ts) h e k = (
+  type_fixed names ls i t e.0 (settled_before names (fixed ls i (Some t)) (taken (fixed ls i (Some t)) is ts).locals (taken_later (fixed ls i (Some t)) is ts) k)
+      (λ u z. takes_by (status_at ls i) t u (first_part (status_takes (status_at ls i) t) (taken (fixed ls i (Some t)) is ts).all h) z),
+  all_take names (fixed ls i (Some t)) is ts (second_part (status_takes (status_at ls i) t) (taken (fixed ls i (Some t)) is ts).all h) (each_later ls (fixed ls i (Some t)) is (fixed_later ls i (Some t)) e.1) k,
+)
 
 -- the targets take the parts
 abbrev TakenBy : Names → Option (List Target) → List SourceType → Type 0

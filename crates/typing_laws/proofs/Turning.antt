@@ -92,12 +92,12 @@ range_over names ns r g = record {
   told = record {
     reading = (g (λ y. true)).reading;
     moves = λ reads h.
-      let k = (g reads).holds tt h in
-      joined_reads reads (optional_moves (optional_tree r.start)) (ex_moves (tree_of r.stop)) (optional_reads reads r.start names r refl k) (ex_reads reads (tree_of r.stop) k.stop_reads);
+        let k = (g reads).holds tt h in
+        joined_reads reads (optional_moves (optional_tree r.start)) (ex_moves (tree_of r.stop)) (optional_reads reads r.start names r refl k) (ex_reads reads (tree_of r.stop) k.stop_reads);
   };
   is = λ vs a p i body.
-    let m = moves-Range vs a p i r.start r.stop r.step body in
-    record { inner = m.inner; is = m.is ∙ sym (joined-joined (optional_moves (optional_tree r.start)) (ex_moves (tree_of r.stop)) (over_items i (moves_of vs m.inner body))) };
+      let m = moves-Range vs a p i r.start r.stop r.step body in
+      record { inner = m.inner; is = m.is ∙ sym (joined-joined (optional_moves (optional_tree r.start)) (ex_moves (tree_of r.stop)) (over_items i (moves_of vs m.inner body))) };
 }
 
 scalar_over : (ns : List Note) (t : Typed) (o : Option Scalar) → Told ns (ex_moves (tree_of t.expr)) → (k : ℕ → List Stmt → StmtKind) → (over_scalar t o).over ≡ Some k → GoneOver (ns ++ (over_scalar t o).notes) k
