@@ -1,5 +1,5 @@
 -- An expression that tells of no broken rule means something.
-use Rattle.std.proofs.Common.{ℕ, zero, suc, Bool, true, false, List, [], ◌∷◌, ◌++◌, Some, None, Option, refl}
+use Rattle.std.proofs.Common.{ℕ, zero, suc, Bool, true, false, List, [], ◌∷◌, Some, None, Option, refl}
 use Rattle.std.specs.Prelude.{slice_get}
 use Rattle.puya_base.specs.declared.source.Place.{Place}
 use Rattle.puya_base.specs.declared.source.Rule.TheVariants as rule
@@ -18,7 +18,7 @@ use Rattle.meaning_rules.specs.declared.meaning.Lit.TheVariants as lit
 use Rattle.meaning_rules.specs.declared.meaning.Meaning.{Meaning}
 use Rattle.meaning_rules.specs.declared.meaning.Meaning.TheVariants as meaning
 use Rattle.meaning_rules.specs.declared.scope.Scope.{Scope}
-use Rattle.meaning_rules.specs.Meanings.{Judged, Valued, value, required, operand_of, condition, says, breaks, context, freely, wants, part_wanted, hope_or_free, part_of_hope, part_hope, whole_hope}
+use Rattle.meaning_rules.specs.Meanings.{Judged, after, Valued, value, required, operand_of, condition, says, breaks, context, freely, wants, part_wanted, hope_or_free, part_of_hope, part_hope, whole_hope}
 use Rattle.meaning_rules.specs.Operations.{short_literal, index_hope, based, is_bytes}
 use Rattle.call_rules.specs.declared.slots.Used.{Used}
 use Rattle.call_rules.specs.Calls as calls
@@ -26,9 +26,10 @@ use Rattle.expression_check.specs.Expressions.{at_meaning, in_parens, judge, par
 use Rattle.typing_laws.proofs.Known.{KnownScope, KnownJudged, KnownValued, KnownOperated, KnownMeaning, IsHope, AreHopes, IsExpected, IsHopeful}
 use Rattle.typing_laws.proofs.KnownParts.{says_then, known_breaks, either_known, operand_is_known, value_is_known, required_is_known, condition_is_known}
 use Rattle.typing_laws.proofs.KnownReads.{name_known, member_known}
-use Rattle.typing_laws.proofs.KnownOperators.{binary_known, unary_known, choose_known, KnownParts, and_part_known, tuple_known, KnownItems, and_item_known, display_known}
+use Rattle.typing_laws.proofs.KnownOperators.{binary_known, unary_known, choose_known, KnownTupleParts, and_part_known, tuple_known, KnownItems, and_item_known, display_known}
 use Rattle.typing_laws.proofs.KnownIndexes.{index_known, KnownEnded, end_known, absent_known, slice_known}
-use Rattle.typing_laws.proofs.KnownCalls.{KnownCallee, callee_known, KnownBound, given_known, and_given_known, call_known}
+use Rattle.typing_laws.proofs.KnownArguments.{KnownCallee, callee_known, KnownBound, given_known, and_given_known}
+use Rattle.typing_laws.proofs.KnownCalls.{call_known}
 
 -- ---- what is hoped of parts
 
@@ -79,7 +80,7 @@ abbrev bound_of : Scope → Judged → Args → calls.Bound
 bound_of s j as_ = arguments s (calls.callee s.functions j.meaning) 0 calls.nothing_used as_
 
 called_known : (s : Scope) (p : Place) (j : Judged) (as_ : Args) → KnownScope s → KnownJudged s j → (KnownCallee (calls.callee s.functions j.meaning) → KnownBound (bound_of s j as_))
-    → KnownJudged s (record { notes = j.notes ++ (calls.call p (calls.callee s.functions j.meaning) (bound_of s j as_)).notes; meaning = (calls.call p (calls.callee s.functions j.meaning) (bound_of s j as_)).meaning })
+    → KnownJudged s (after j.notes (calls.call p (calls.callee s.functions j.meaning) (bound_of s j as_)))
 called_known s p j as_ k g h =
     let c = calls.callee s.functions j.meaning in let r = calls.call p c (bound_of s j as_) in
     says_then (KnownMeaning s j.meaning) (KnownMeaning s r.meaning) j.notes r.notes g (λ m. let d = callee_known s j.meaning k.known m in call_known s p c (bound_of s j as_) d (h d))
@@ -112,7 +113,7 @@ mutual
       choose_known s p (place_of a) (place_of z) (place_of b) (whole_hope c.expect) (judge s c a) (judge s freely z) (judge s c b) (whole_hope_is c.expect h)
       (judge_known s c a k h) (judge_known s freely z k tt) (judge_known s c b k h)
 
-  parts_known : (s : Scope) (c : Context) (i : ℕ) (es : Exs) → KnownScope s → IsHopeful c → KnownParts (parts s c i es)
+  parts_known : (s : Scope) (c : Context) (i : ℕ) (es : Exs) → KnownScope s → IsHopeful c → KnownTupleParts (parts s c i es)
   parts_known s c i no_exprs k h = λ u. tt
   parts_known s c i (an_expr e es) k h =
       let d = part_hope c.expect i in

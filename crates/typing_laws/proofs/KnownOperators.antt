@@ -177,15 +177,15 @@ choose_known s p pa pc pb h x z y i g k m =
 
 -- ---- tuples and lists
 
-abbrev pub KnownParts : Parts → Type 0
-KnownParts r = Unbroken r.notes → KnownTyped r.typed
+abbrev pub KnownTupleParts : Parts → Type 0
+KnownTupleParts r = Unbroken r.notes → KnownTyped r.typed
 
 both_known : (o : Option Typed) (r : Option (List Typed)) → KnownTyped o × KnownTyped r → KnownTyped (both o r)
 both_known (Some t) (Some ts) k = tt
 both_known (Some t) None k = absurd k.1
 both_known None r k = absurd k.0
 
-pub and_part_known : (v : Valued) (r : Parts) → KnownValued v → KnownParts r → KnownParts (and_part v r)
+pub and_part_known : (v : Valued) (r : Parts) → KnownValued v → KnownTupleParts r → KnownTupleParts (and_part v r)
 and_part_known v r g h u = both_known v.typed r.typed (says_both (KnownTyped v.typed) (KnownTyped r.typed) v.notes r.notes g h u)
 
 tuple_of_known : (s : Scope) (p : Place) (ts : List Typed) → KnownJudged s (tuple_of p ts)
@@ -197,7 +197,7 @@ tuple_when_known : (s : Scope) (p : Place) (o : Option (List Typed)) → KnownTy
 tuple_when_known s p None k = absurd k
 tuple_when_known s p (Some ts) k = tuple_of_known s p ts
 
-pub tuple_known : (s : Scope) (p : Place) (r : Parts) → KnownParts r → KnownJudged s (judge_tuple p r)
+pub tuple_known : (s : Scope) (p : Place) (r : Parts) → KnownTupleParts r → KnownJudged s (judge_tuple p r)
 tuple_known s p r k = let j = tuple_when p r.typed in says_then (KnownTyped r.typed) (KnownMeaning s j.meaning) r.notes j.notes k (tuple_when_known s p r.typed)
 
 abbrev pub KnownItems : Items → Type 0

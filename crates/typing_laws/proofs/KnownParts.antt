@@ -22,7 +22,7 @@ use Rattle.meaning_rules.specs.declared.meaning.Meaning.TheVariants as meaning
 use Rattle.meaning_rules.specs.declared.operand.Operand.{Operand}
 use Rattle.meaning_rules.specs.declared.operand.Operand.TheVariants.{Value as a_value, Literal as a_literal, Missing as missing}
 use Rattle.meaning_rules.specs.declared.scope.Scope.{Scope}
-use Rattle.meaning_rules.specs.Meanings.{Judged, Valued, broken, breaks, after, literal, lit_node, lit_type, value_breaks, a_typed, kept, operand, operand_of, settled, value, fits_type, fits_when, required, truth_of, condition_at, condition_of, condition}
+use Rattle.meaning_rules.specs.Meanings.{Judged, Valued, broken, breaks, literal, lit_node, lit_type, value_breaks, a_typed, kept, operand, operand_of, settled, value, fits_type, fits_when, required, truth_of, condition_at, condition_of, condition}
 use Rattle.typing_laws.proofs.Giving.{each_front, each_behind}
 use Rattle.typing_laws.proofs.Known.{IsUnbroken, Unbroken, IsHope, KnownMeaning, KnownOperand, KnownTyped, KnownJudged, KnownOperated, KnownValued}
 
@@ -57,9 +57,6 @@ known_breaks s r p u = broken_says ⊥ r p u
 pub either_known : (s : Scope) (b : Bool) (x y : Judged) → KnownJudged s x → KnownJudged s y → KnownJudged s (if b then x else y)
 either_known s true x y g h = g
 either_known s false x y g h = h
-
-pub known_after : (s : Scope) (ns : List Note) (j : Judged) → KnownJudged s j → KnownJudged s (after ns j)
-known_after s ns j k u = k (unbroken_behind ns j.notes u)
 
 -- ---- literals
 

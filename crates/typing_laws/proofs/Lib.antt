@@ -55,6 +55,7 @@ mod Contracts
 mod Known
 mod KnownParts
 mod KnownReads
+mod KnownArguments
 mod KnownCalls
 mod KnownIndexes
 mod KnownOperators
