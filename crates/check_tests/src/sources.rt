@@ -899,38 +899,22 @@ fn long_text(alloc: Global, length: u32) -> Result<String, Memory> {
     Ok(text)
 }
 
+/// Lines with literals of 4096 bytes, for which `~` stands, and of one more.
+const LONG: &str = r#"ok B = b"~"
+P14 B = `b"~a"
+ok @subroutine;def f(c: bool) -> bool:;    assert c, "~";    return c
+P14 @subroutine;def f(c: bool) -> bool:;    assert c, `"~a";    return c
+P14 @subroutine;def f(c: bool) -> bool:;    `"~a";    return c
+P14 @subroutine;def f(c: bool) -> bool:;    x = String(`"~" "a");    return d"#;
+
 #[test]
 fn long_literals(rt: HostRuntime) -> Result<(), Fail> {
     let alloc = rt.alloc();
-    let fits = long_text(alloc, 4096)?;
-    check_lines(
-        &rt,
-        alloc,
-        format!(in alloc; "ok B = b\"{fits}\"")?.as_str(),
-    )?;
-    let long = long_text(alloc, 4097)?;
-    check_lines(
-        &rt,
-        alloc,
-        format!(in alloc; "P14 B = `b\"{long}\"")?.as_str(),
-    )
-}
-
-/// What begins a subroutine.
-const FLAGGED: &str = "@subroutine;def f(c: bool) -> bool:;    ";
-
-#[test]
-fn long_texts(rt: HostRuntime) -> Result<(), Fail> {
-    let alloc = rt.alloc();
-    let fits = long_text(alloc, 4096)?;
-    let row = format!(in alloc; "ok {FLAGGED}assert c, \"{fits}\";    return c")?;
-    check_lines(&rt, alloc, row.as_str())?;
-    let row = format!(in alloc; "P14 {FLAGGED}assert c, `\"{fits}a\";    return c")?;
-    check_lines(&rt, alloc, row.as_str())?;
-    let row = format!(in alloc; "P14 {FLAGGED}`\"{fits}a\";    return c")?;
-    check_lines(&rt, alloc, row.as_str())?;
-    let row = format!(in alloc; "P14 {FLAGGED}x = String(`\"{fits}\" \"a\");    return d")?;
-    check_lines(&rt, alloc, row.as_str())
+    let all = long_text(alloc, 4096)?;
+    for row in LONG.lines() {
+        check_lines(&rt, alloc, row.replace(alloc, "~", all.as_str())?.as_str())?;
+    }
+    Ok(())
 }
 
 #[test]

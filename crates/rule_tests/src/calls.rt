@@ -3,7 +3,8 @@
 use call_rules::{Callee, Known, applied};
 use meaning_rules::{Lit, Meaning};
 use path_rules::{Note, Notes};
-use puya_base::{Blob, List, Place, Rule};
+use puya_base::{Blob, List, Memory, Place, Rule};
+use std::alloc::Global;
 use std::test::Fail;
 
 const HERE: Place = Place { line: 1, col: 1 };
@@ -18,17 +19,20 @@ fn is_told(notes: &Notes, rule: Rule, place: Place) -> bool {
     }
 }
 
+/// What `from_hex` gives for a text.
+fn bytes_of(alloc: Global, notes: &mut Notes, digits: &[u8]) -> Result<Meaning, Memory> {
+    let digits = Lit::Text(Blob::from_slice(alloc, digits)?);
+    let known = vec![in alloc; Known::Literal(0, THERE, digits)]?;
+    let none = List::new(alloc);
+    applied(alloc, notes, &none, HERE, Callee::FromHex, known)
+}
+
 #[test]
 fn hexadecimal_digits_come_in_pairs(rt: HostRuntime) -> Result<(), Fail> {
     let mut notes = Notes::new(rt.alloc());
-    let none = List::new(rt.alloc());
-    let digits = Lit::Text(Blob::from_slice(rt.alloc(), b"00fF")?);
-    let even = vec![in rt.alloc(); Known::Literal(0, THERE, digits)]?;
-    let bytes = applied(rt.alloc(), &mut notes, &none, HERE, Callee::FromHex, even)?;
+    let bytes = bytes_of(rt.alloc(), &mut notes, b"00fF")?;
     assert!(rt; matches!(bytes, Meaning::Value(_)));
-    let digits = Lit::Text(Blob::from_slice(rt.alloc(), b"00f")?);
-    let odd = vec![in rt.alloc(); Known::Literal(0, THERE, digits)]?;
-    applied(rt.alloc(), &mut notes, &none, HERE, Callee::FromHex, odd)?;
+    bytes_of(rt.alloc(), &mut notes, b"00f")?;
     assert!(rt; is_told(&notes, Rule::P14, THERE));
     Ok(())
 }
